@@ -1,0 +1,2 @@
+pub mod Nibble
+pub mod Agree

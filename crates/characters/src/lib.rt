@@ -1,0 +1,103 @@
+// One character of the line, a word of 16 bits (document 01, "The line"; data sheet 004, Table 20).
+ghost use mathlib.Core.Path.{_≡_};
+ghost use Rattle.characters.specs.Character.{isCharacter, evenParity};
+ghost use Rattle.characters.specs.Nibble.{nibbleWord, trueBits, decode, isNibble};
+
+// The preamble carries data 15h, the stop character 54h.
+pub const PREAMBLE: u16 = 0xE2A;
+
+pub const STOP: u16 = 0xEA8;
+
+// What a word stands for between preamble and stop.
+pub enum Decoded {
+    Nibble(u8),
+    Nothing,
+}
+
+// Whether the set bits among bits 1 to 9 are even in number.
+fn even_parity(w: u16) -> bool
+    ensures { λ r. ⌜ r ≡ evenParity w ⌝ }
+{
+    (w / 2 % 2
+        + w / 4 % 2
+        + w / 8 % 2
+        + w / 16 % 2
+        + w / 32 % 2
+        + w / 64 % 2
+        + w / 128 % 2
+        + w / 256 % 2
+        + w / 512 % 2)
+        % 2
+        == 0
+}
+
+// The check of one character: high bits, start, stops, parity.
+pub fn is_character(w: u16) -> bool
+    ensures { λ r. ⌜ r ≡ isCharacter w ⌝ }
+{
+    if w / 4096 != 0 {
+        return false;
+    }
+    if w % 2 != 0 {
+        return false;
+    }
+    if w / 1024 % 2 != 1 {
+        return false;
+    }
+    if w / 2048 % 2 != 1 {
+        return false;
+    }
+    even_parity(w)
+}
+
+// The words of the sixteen nibbles.
+const WORDS: [u16; 16] = [
+    0xD54,
+    0xD52,
+    0xD4C,
+    0xD4A,
+    0xD34,
+    0xD32,
+    0xD2C,
+    0xD2A,
+    0xCD4,
+    0xCD2,
+    0xCCC,
+    0xCCA,
+    0xCB4,
+    0xCB2,
+    0xCAC,
+    0xCAA,
+];
+
+// The word of a nibble, taken from the four lowest bits of n.
+pub fn word_of(n: u8) -> u16
+    ensures { λ r. ⌜ r ≡ nibbleWord n ⌝ }
+{
+    WORDS[(n % 16) as usize]
+}
+
+// The four data bits that are not complements, of any word.
+pub fn true_bits(w: u16) -> u8
+    ensures { λ r. ⌜ r ≡ trueBits w ⌝ }
+{
+    (w / 2 % 2 + w / 8 % 2 * 2 + w / 32 % 2 * 4 + w / 128 % 2 * 8) as u8
+}
+
+// Whether a word is the word of a nibble.
+pub fn is_nibble(w: u16) -> bool
+    ensures { λ r. ⌜ r ≡ isNibble w ⌝ }
+{
+    word_of(true_bits(w)) == w
+}
+
+// The nibble whose word this is, or nothing.
+pub fn nibble_of(w: u16) -> Decoded
+    ensures { λ r. ⌜ r ≡ decode w ⌝ }
+{
+    if is_nibble(w) {
+        Decoded::Nibble(true_bits(w))
+    } else {
+        Decoded::Nothing
+    }
+}

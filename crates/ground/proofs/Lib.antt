@@ -1,0 +1,3 @@
+pub mod Test
+pub mod Sweep
+pub mod Lists

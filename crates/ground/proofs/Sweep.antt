@@ -1,0 +1,28 @@
+-- What a test of every number below a bound shows of each of them.
+use mathlib.Core.Path.{_≡_, refl, sym, ap, _∙_}
+use mathlib.Core.Bool.{Bool, true}
+use mathlib.Core.Logic.{⊎-elim}
+use Prim.Native.Nat.{ℕ, zero, suc, _+_, _<_}
+use native.Mathlib.Nat.{eq-or-lt-of-le, le-of-suc-le-suc, not-suc-le-zero, add-zero, add-suc, suc-add}
+use lib.ListN.{length, getD}
+use Rattle.ground.specs.Sweep.{every, tabulated}
+use Rattle.ground.proofs.Test.{and-left, and-right}
+
+-- the computed test, carried to one number
+pub swept : (test : ℕ → Bool) (n : ℕ) → every test n ≡ true → (k : ℕ) → k < n → test k ≡ true
+swept test zero e k h = absurd (not-suc-le-zero h)
+swept test (suc n) e k h =
+    ⊎-elim
+    (λ same. ap test same ∙ and-left (test n) (every test n) e)
+    (λ lower. swept test n (and-right (test n) (every test n) e) k lower)
+    (eq-or-lt-of-le (le-of-suc-le-suc h))
+
+-- an entry of a computed table is its rule at the entry's place
+pub tabulated-at : (f : ℕ → ℕ) (n i k : ℕ) → k < n → getD (tabulated f n i) k 0 ≡ f (i + k)
+tabulated-at f zero i k h = absurd (not-suc-le-zero h)
+tabulated-at f (suc n) i zero h = ap f (sym (add-zero i))
+tabulated-at f (suc n) i (suc k) h = tabulated-at f n (suc i) k (le-of-suc-le-suc h) ∙ ap f (suc-add i k ∙ sym (add-suc i k))
+
+pub length-tabulated : (f : ℕ → ℕ) (n i : ℕ) → length (tabulated f n i) ≡ n
+length-tabulated f zero i = refl
+length-tabulated f (suc n) i = ap suc (length-tabulated f n (suc i))

@@ -1,0 +1,108 @@
+-- Laws of a line written from bytes: its length, its words and its bytes.
+use mathlib.Core.Path.{_≡_, refl, sym, ap, ap₂, _∙_, subst}
+use mathlib.Core.Logic.{⊎-elim}
+use mathlib.Core.List.{List, [], _∷_, _++_}
+use Prim.Native.Nat.{ℕ, zero, suc, min, _+_, _*_, _/_, _%_, _≤_, _<_}
+use native.Mathlib.Nat.{not-suc-le-zero, zero-add}
+use native.Mathlib.Numerals.{one-add}
+use native.Mathlib.Omega.{arith}
+use lib.ListN.{length, getD, take, length-take, length-append, List·getD-append, List·getD-eq-default}
+use lib.Seq.{ext-getD, getD-at, getD-take}
+use Rattle.ground.specs.Sweep.{tabulated}
+use Rattle.ground.proofs.Test.{below-or-not}
+use Rattle.ground.proofs.Sweep.{tabulated-at, length-tabulated}
+use Rattle.remainder.specs.Turned.{Bytes}
+use Rattle.characters.specs.Character.{preamble, stop}
+use Rattle.characters.specs.Nibble.{nibbleWord, trueBits}
+use Rattle.characters.proofs.Nibble.{true-bits-of, true-bits-lt}
+use Rattle.lines.specs.Line.{charactersOf, lineOf, byteAt, byteCount, bytesOf}
+
+pub length-characters : (bytes : List ℕ) → length (charactersOf bytes) ≡ 2 * length bytes
+unfolding charactersOf
+length-characters [] = refl
+length-characters (b ∷ bytes) = let h = length-characters bytes in omega arith
+
+pub length-line : (bytes : List ℕ) → length (lineOf bytes) ≡ 2 * length bytes + 2
+unfolding lineOf
+length-line bytes =
+    omega (arith, length-append (charactersOf bytes) (stop ∷ []), length-characters bytes)
+
+-- ---- the words of a line: byte i has the words 1 + 2i and 2 + 2i, the last word is the stop character
+
+two-more : (i : ℕ) → 2 * suc i ≡ suc (suc (2 * i))
+two-more i = omega arith
+
+low-character : (bytes : List ℕ) (i : ℕ) → i < length bytes → getD (charactersOf bytes) (2 * i) 0 ≡ nibbleWord (getD bytes i 0 % 16)
+unfolding charactersOf
+low-character [] i h = absurd (not-suc-le-zero h)
+low-character (b ∷ bytes) zero h = refl
+low-character (b ∷ bytes) (suc i) h = rw two-more (low-character bytes i (omega arith))
+
+high-character : (bytes : List ℕ) (i : ℕ) → i < length bytes → getD (charactersOf bytes) (suc (2 * i)) 0 ≡ nibbleWord (getD bytes i 0 / 16)
+unfolding charactersOf
+high-character [] i h = absurd (not-suc-le-zero h)
+high-character (b ∷ bytes) zero h = refl
+high-character (b ∷ bytes) (suc i) h = rw two-more (high-character bytes i (omega arith))
+
+inner : (bytes : List ℕ) (k : ℕ) → k < 2 * length bytes → getD (lineOf bytes) (suc k) 0 ≡ getD (charactersOf bytes) k 0
+unfolding lineOf
+inner bytes k h = List·getD-append (charactersOf bytes) (stop ∷ []) 0 k (omega (arith, length-characters bytes))
+
+pub low-word : (bytes : List ℕ) (i : ℕ) → i < length bytes → getD (lineOf bytes) (1 + 2 * i) 0 ≡ nibbleWord (getD bytes i 0 % 16)
+low-word bytes i h =
+    ap (λ (k : ℕ). getD (lineOf bytes) k 0) (one-add (2 * i)) ∙ inner bytes (2 * i) (omega arith) ∙ low-character bytes i h
+
+pub high-word : (bytes : List ℕ) (i : ℕ) → i < length bytes → getD (lineOf bytes) (2 + 2 * i) 0 ≡ nibbleWord (getD bytes i 0 / 16)
+high-word bytes i h =
+    let place : 2 + 2 * i ≡ suc (suc (2 * i)) = omega arith in
+    ap (λ (k : ℕ). getD (lineOf bytes) k 0) place ∙ inner bytes (suc (2 * i)) (omega arith) ∙ high-character bytes i h
+
+pub last-word : (bytes : List ℕ) → getD (lineOf bytes) (1 + 2 * length bytes) 0 ≡ stop
+unfolding lineOf
+last-word bytes =
+    ap (λ (k : ℕ). getD (lineOf bytes) k 0) (one-add (2 * length bytes))
+    ∙ getD-at (charactersOf bytes) stop [] 0 (2 * length bytes) (length-characters bytes)
+
+-- ---- the bytes of a line
+
+pub byte-of-line : (bytes : List ℕ) → Bytes bytes → (i : ℕ) → i < length bytes → byteAt (lineOf bytes) i ≡ getD bytes i 0
+unfolding byteAt
+byte-of-line bytes b i h =
+    let byte = getD bytes i 0 in
+    let small = b i in
+    ap₂ (λ (x y : ℕ). trueBits x + 16 * trueBits y) (low-word bytes i h) (high-word bytes i h)
+    ∙ ap₂ (λ (x y : ℕ). x + 16 * y) (true-bits-of (byte % 16) (omega arith)) (true-bits-of (byte / 16) (omega arith))
+    ∙ omega arith
+
+pub length-bytes : (line : List ℕ) → length (bytesOf line) ≡ byteCount line
+unfolding bytesOf
+length-bytes line = length-tabulated (byteAt line) (byteCount line) 0
+
+pub bytes-at : (line : List ℕ) (i : ℕ) → i < byteCount line → getD (bytesOf line) i 0 ≡ byteAt line i
+unfolding bytesOf
+bytes-at line i h = tabulated-at (byteAt line) (byteCount line) 0 i h ∙ ap (byteAt line) (zero-add i)
+
+pub byte-lt : (line : List ℕ) (i : ℕ) → byteAt line i < 256
+unfolding byteAt
+byte-lt line i = omega (arith, true-bits-lt (getD line (1 + 2 * i) 0), true-bits-lt (getD line (2 + 2 * i) 0))
+
+pub bytes-bytes : (line : List ℕ) → Bytes (bytesOf line)
+bytes-bytes line i =
+    ⊎-elim (λ h. omega (arith, bytes-at line i h, byte-lt line i))
+    (λ h. let past : length (bytesOf line) ≤ i = omega (arith, length-bytes line) in omega (arith, List·getD-eq-default (bytesOf line) 0 past))
+    (below-or-not i (byteCount line))
+
+-- reading back what was written
+pub bytes-of-line : (bytes : List ℕ) → Bytes bytes → bytesOf (lineOf bytes) ≡ bytes
+bytes-of-line bytes b =
+    let count : length (bytesOf (lineOf bytes)) ≡ length bytes = omega (arith, length-bytes (lineOf bytes), length-line bytes) in
+    ext-getD 0 (bytesOf (lineOf bytes)) bytes count
+    (λ i h. bytes-at (lineOf bytes) i (omega (arith, length-bytes (lineOf bytes))) ∙ byte-of-line bytes b i (omega arith))
+
+-- ---- the bytes of a line up to one of them
+
+pub length-part : (line : List ℕ) (to : ℕ) → length (take to (bytesOf line)) ≡ min to (byteCount line)
+length-part line to = length-take to (bytesOf line) ∙ ap (min to) (length-bytes line)
+
+pub part-at : (line : List ℕ) (to i : ℕ) → i < min to (byteCount line) → getD (take to (bytesOf line)) i 0 ≡ byteAt line i
+part-at line to i h = getD-take to (bytesOf line) i 0 (omega arith) ∙ bytes-at line i (omega arith)

@@ -1,0 +1,67 @@
+-- Laws of one byte of the PEC: it is linear, it keeps to bytes, and it takes no state but 0 to 0.
+use mathlib.Core.Path.{_≡_, refl, sym, ap, ap₂, _∙_}
+use mathlib.Core.Bool.{Bool, true, _&&_, _||_, cond}
+use mathlib.Core.Logic.{⊎-elim}
+use Prim.Native.Nat.{ℕ, _+_, _-_, _*_, _/_, _%_, _^_, _<_}
+use native.Mathlib.Nat.{mod-lt, zero-lt-suc}
+use native.Mathlib.Omega.{arith}
+use lib.Bits.{bitXor, xor-zero-r}
+use lib.Dec.{eqb, ltb}
+use borrow.Author.Tests.{ltb-true, eqb-true}
+use Rattle.ground.specs.Sweep.{every}
+use Rattle.ground.proofs.Test.{and-left, and-right, or-cases}
+use Rattle.ground.proofs.Sweep.{swept}
+use Rattle.remainder.specs.Register.{times, shift, lowestFirst, Linear, LinearIn}
+use Rattle.remainder.proofs.Xor.{digit, xor-swap}
+use Rattle.remainder.proofs.Linear.{times-linear, lowest-first-linear}
+use Rattle.pec.specs.Pec.{poly, bitStep, byteStep}
+
+-- The constant is the polynomial's, x^8 + x^6 + x^3 + x^2 + 1 lowest bit first: x^e stands at bit 7 - e, and x^8 is the bit that falls out.
+polynomial : poly ≡ 2 ^ (7 - 6) + 2 ^ (7 - 3) + 2 ^ (7 - 2) + 2 ^ (7 - 0)
+polynomial = refl
+
+-- the listing's bit is a shift, lowest bit first
+bit-is-shift : (crc : ℕ) → bitStep crc ≡ lowestFirst poly crc
+unfolding bitStep shift
+bit-is-shift crc =
+    digit (λ (low : ℕ). cond (eqb low 1) (bitXor (crc / 2) poly) (crc / 2) ≡ bitXor (crc / 2) (low * poly))
+    (sym (xor-zero-r (crc / 2))) refl (crc % 2) (mod-lt crc (zero-lt-suc 1))
+
+bit-linear : Linear bitStep
+bit-linear a b =
+    bit-is-shift (bitXor a b) ∙ lowest-first-linear poly a b ∙ sym (ap₂ bitXor (bit-is-shift a) (bit-is-shift b))
+
+pub byte-linear : LinearIn byteStep
+unfolding byteStep
+byte-linear a b x y = ap (times 8 bitStep) (xor-swap a b x y) ∙ times-linear bitStep bit-linear 8 (bitXor a x) (bitXor b y)
+
+-- what eight bits make of a state
+unfoldable pub eightBits : ℕ → ℕ
+eightBits crc = times 8 bitStep crc
+
+-- a byte that turns nothing over
+pub byte-zero : (crc : ℕ) → byteStep crc 0 ≡ eightBits crc
+unfolding byteStep eightBits
+byte-zero crc = ap (times 8 bitStep) (xor-zero-r crc)
+
+pub byte-is : (crc byte : ℕ) → byteStep crc byte ≡ eightBits (bitXor crc byte)
+unfolding byteStep eightBits
+byte-is crc byte = refl
+
+kept : ℕ → Bool
+kept crc = ltb (eightBits crc) 256 && (eqb crc 0 || ltb 0 (eightBits crc))
+
+all-kept : every kept 256 ≡ true
+unfolding kept eightBits times bitStep
+all-kept = refl
+
+pub eight-lt : (crc : ℕ) → crc < 256 → eightBits crc < 256
+unfolding kept
+eight-lt crc h = ltb-true (eightBits crc) 256 (and-left _ _ (swept kept 256 all-kept crc h))
+
+-- no state but 0 becomes 0
+pub eight-pos : (crc : ℕ) → 0 < crc → crc < 256 → 0 < eightBits crc
+unfolding kept
+eight-pos crc p h =
+    ⊎-elim (λ e. absurd (omega (arith, eqb-true crc 0 e))) (λ e. ltb-true 0 (eightBits crc) e)
+    (or-cases (eqb crc 0) _ (and-right (ltb (eightBits crc) 256) _ (swept kept 256 all-kept crc h)))

@@ -1,0 +1,59 @@
+// What the program prints: bytes and words in hexadecimal, places in decimal.
+use lines::read::Place;
+
+pub fn text(s: &[u8]) {
+    io::write_all(libc::STDOUT_FILENO, s);
+}
+
+pub fn byte(b: u8) {
+    io::print_hex(libc::STDOUT_FILENO, b as u64, 2);
+}
+
+pub fn word(w: u16) {
+    io::print_hex(libc::STDOUT_FILENO, w as u64, 3);
+}
+
+pub fn yes_or_no(yes: bool) {
+    if yes {
+        text(b"yes");
+    } else {
+        text(b"no");
+    }
+}
+
+pub fn place(p: Place) {
+    match p {
+        Place::At(i) => {
+            io::print_decimal(libc::STDOUT_FILENO, i as u64);
+        }
+        Place::Nowhere => {
+            text(b"none");
+        }
+    }
+}
+
+fn next_byte(b: u8) {
+    text(b" ");
+    byte(b);
+}
+
+fn next_word(w: u16) {
+    text(b" ");
+    word(w);
+}
+
+pub fn bytes_of(bytes: &[u8]) {
+    let mut i = 0;
+    while i < bytes.len() {
+        next_byte(bytes[i]);
+        i += 1;
+    }
+}
+
+pub fn words_of(words: &[u16]) {
+    let mut i = 0;
+    while i < words.len() {
+        next_word(words[i]);
+        i += 1;
+    }
+}
