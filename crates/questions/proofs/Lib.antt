@@ -1,0 +1,4 @@
+pub mod ByKind
+pub mod Good
+pub mod Writing
+pub mod Agree

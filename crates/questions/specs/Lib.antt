@@ -1,0 +1,4 @@
+pub mod Question
+pub mod Shape
+pub mod Bytes
+pub mod Command
