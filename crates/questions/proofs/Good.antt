@@ -98,3 +98,14 @@ module _ (q : Question) where
       at (suc (suc zero)) lo = absurd (omega arith)
       at (suc (suc (suc zero))) lo = record { covered = refl; words = refl }
       at (suc (suc (suc (suc k)))) lo = record { covered = refl; words = refl }
+
+  pub covered-le : shapeOf q .covered ≤ 2 * q .n + 5
+  unfolding shapeOf
+  covered-le = at (q .kind)
+    where
+      at : (k : ℕ) → shapeAt k q .covered ≤ 2 * q .n + 5
+      at zero = omega arith
+      at (suc zero) = omega arith
+      at (suc (suc zero)) = omega arith
+      at (suc (suc (suc zero))) = omega arith
+      at (suc (suc (suc (suc k)))) = omega arith

@@ -1,0 +1,192 @@
+// The rows of "Turned away", each over the whole line before the next.
+use crate::reading::Reading;
+use crate::reading::Refusal;
+use lines::read::Place;
+use lines::read::byte_at;
+use lines::read::first_no_character;
+use lines::read::first_no_nibble;
+use lines::read::is_framed;
+use lines::read::pec_over;
+use questions::question::HELLOALL;
+use questions::question::Question;
+use questions::question::WRITEDEVICE;
+use questions::question::is_good;
+use questions::question::shape_of;
+use std::num::wrapping_add_u8;
+ghost use mathlib.Core.Path.{_≡_};
+ghost use Rattle.reader.specs.Rows.{echoed, valueEchoed, pecRight, aliveRight, checkByte, settled, settledCount};
+ghost use Rattle.reader.specs.Judge.{judgeBytes, judgeWords, judgeOf};
+
+fn refused(why: Refusal) -> Reading
+    ensures { λ r. ⌜ r ≡ Reading.Refused why ⌝ }
+{
+    Reading::Refused(why)
+}
+
+// Row 7 of a write: its value came back.
+fn value_echoes(q: Question, line: &[u16]) -> bool
+    ensures { λ r. ⌜ r ≡ valueEchoed q (now (line .entry)) ⌝ }
+{
+    let value = q.value;
+    let low = (value % 256) as u8;
+    let high = (value / 256) as u8;
+    if byte_at(line, 2) != low {
+        return false;
+    }
+    byte_at(line, 3) == high
+}
+
+// Row 7, ECHO: the first and second byte, and a write's value, are what was asked.
+fn echoes(q: Question, line: &[u16]) -> bool
+    ensures { λ r. ⌜ r ≡ echoed q (now (line .entry)) ⌝ }
+{
+    let s = shape_of(q);
+    let first = s.first;
+    if wide(byte_at(line, 0)) != first {
+        return false;
+    }
+    let kind = q.kind;
+    let second = byte_at(line, 1);
+    if kind == HELLOALL {
+        return second == 0;
+    }
+    let reg = q.reg;
+    if second != reg {
+        return false;
+    }
+    if kind <= WRITEDEVICE {
+        return value_echoes(q, line);
+    }
+    true
+}
+
+fn wide(b: u8) -> u16
+    ensures { λ r. ⌜ r ≡ b ⌝ }
+{
+    b as u16
+}
+
+// Row 8, PEC.
+fn pec_is_right(q: Question, line: &[u16]) -> bool
+    ensures { λ r. ⌜ r ≡ pecRight q (now (line .entry)) ⌝ }
+{
+    if q.kind == HELLOALL {
+        return true;
+    }
+    let s = shape_of(q);
+    let covered = s.covered;
+    byte_at(line, covered) == pec_over(line, 0, covered)
+}
+
+// Row 9, ALIVE: the seed and one for each device that acts, and after FFh comes 00h.
+fn alive_is_right(q: Question, line: &[u16]) -> bool
+    ensures { λ r. ⌜ r ≡ aliveRight q (now (line .entry)) ⌝ }
+{
+    if q.kind == HELLOALL {
+        return true;
+    }
+    if q.alive != 1 {
+        return true;
+    }
+    let s = shape_of(q);
+    let covered = s.covered;
+    let seed = q.seed;
+    let acting = s.acting;
+    byte_at(line, covered + 1) == wrapping_add_u8(seed, acting)
+}
+
+// The check byte of a read; 0 of the other kinds, which have none.
+fn check_byte(q: Question, line: &[u16]) -> u8
+    ensures { λ r. ⌜ r ≡ checkByte q (now (line .entry)) ⌝ }
+{
+    if q.kind <= WRITEDEVICE {
+        return 0;
+    }
+    let s = shape_of(q);
+    let covered = s.covered;
+    byte_at(line, covered - 1)
+}
+
+// Row 11, COUNT, and what is taken where it passes.
+fn settle(q: Question, line: &[u16]) -> Reading
+    ensures { λ r. ⌜ r ≡ settled q (now (line .entry)) ⌝ }
+{
+    let kind = q.kind;
+    if kind == HELLOALL {
+        return settle_count(byte_at(line, 2));
+    }
+    if kind <= WRITEDEVICE {
+        return Reading::Written;
+    }
+    let s = shape_of(q);
+    Reading::Values(s.values)
+}
+
+fn settle_count(count: u8) -> Reading
+    ensures { λ r. ⌜ r ≡ settledCount count ⌝ }
+{
+    if count < 1 {
+        return refused(Refusal::Count(count));
+    }
+    if 32 < count {
+        return refused(Refusal::Count(count));
+    }
+    Reading::Counted(count)
+}
+
+// Rows 7 to 11.
+fn judge_bytes(q: Question, line: &[u16]) -> Reading
+    ensures { λ r. ⌜ r ≡ judgeBytes q (now (line .entry)) ⌝ }
+{
+    if !echoes(q, line) {
+        return refused(Refusal::Echo);
+    }
+    if !pec_is_right(q, line) {
+        return refused(Refusal::Pec);
+    }
+    if !alive_is_right(q, line) {
+        return refused(Refusal::Alive);
+    }
+    let check = check_byte(q, line);
+    if check != 0 {
+        return refused(Refusal::Check(check));
+    }
+    settle(q, line)
+}
+
+// Rows 4 to 6, then the rest.
+fn judge_words(q: Question, line: &[u16]) -> Reading
+    ensures { λ r. ⌜ r ≡ judgeWords q (now (line .entry)) ⌝ }
+{
+    let bad = first_no_character(line);
+    if let Place::At(i) = bad {
+        return refused(Refusal::Character(i));
+    }
+    if !is_framed(line) {
+        return refused(Refusal::Frame);
+    }
+    let odd = first_no_nibble(line);
+    if let Place::At(i) = odd {
+        return refused(Refusal::Manchester(i));
+    }
+    judge_bytes(q, line)
+}
+
+// All rows, with room for so many values.
+pub fn judge(q: Question, line: &[u16], room: usize) -> Reading
+    ensures { λ r. ⌜ r ≡ judgeOf q (now (line .entry)) room ⌝ }
+{
+    if !is_good(q) {
+        return refused(Refusal::Question);
+    }
+    let s = shape_of(q);
+    let values = s.values;
+    if room < values {
+        return refused(Refusal::Room);
+    }
+    let words = s.words;
+    if line.len() != words {
+        return refused(Refusal::Length);
+    }
+    judge_words(q, line)
+}

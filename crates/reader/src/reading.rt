@@ -1,0 +1,131 @@
+// What the reader says, in the words of document 01's table "Turned away".
+ghost use mathlib.Core.Path.{_≡_};
+ghost use Rattle.reader.specs.Reading.{refusalNumber, refusalPlace, refusalByte, numberOf, placeOf, byteOf, valuesTaken};
+
+// Rows 1 to 11, in their order; a place or a byte where the row has one.
+pub enum Refusal {
+    Question,
+    Room,
+    Length,
+    Character(usize),
+    Frame,
+    Manchester(usize),
+    Echo,
+    Pec,
+    Alive,
+    Check(u8),
+    Count(u8),
+}
+
+// HELLOALL's count on the line; a write's echo; how many values were handed out; or why the line was turned away.
+pub enum Reading {
+    Counted(u8),
+    Written,
+    Values(usize),
+    Refused(Refusal),
+}
+
+// Document 01's number of a row.
+pub fn refusal_number(why: Refusal) -> u8
+    ensures { λ r. ⌜ r ≡ refusalNumber why ⌝ }
+{
+    match why {
+        Refusal::Question => 1,
+        Refusal::Room => 2,
+        Refusal::Length => 3,
+        Refusal::Character(_) => 4,
+        Refusal::Frame => 5,
+        Refusal::Manchester(_) => 6,
+        Refusal::Echo => 7,
+        Refusal::Pec => 8,
+        Refusal::Alive => 9,
+        Refusal::Check(_) => 10,
+        Refusal::Count(_) => 11,
+    }
+}
+
+// The place of a row that has one, else 0.
+pub fn refusal_place(why: Refusal) -> usize
+    ensures { λ r. ⌜ r ≡ refusalPlace why ⌝ }
+{
+    match why {
+        Refusal::Question => 0,
+        Refusal::Room => 0,
+        Refusal::Length => 0,
+        Refusal::Character(i) => i,
+        Refusal::Frame => 0,
+        Refusal::Manchester(i) => i,
+        Refusal::Echo => 0,
+        Refusal::Pec => 0,
+        Refusal::Alive => 0,
+        Refusal::Check(_) => 0,
+        Refusal::Count(_) => 0,
+    }
+}
+
+// The byte of a row that has one, else 0.
+pub fn refusal_byte(why: Refusal) -> u8
+    ensures { λ r. ⌜ r ≡ refusalByte why ⌝ }
+{
+    match why {
+        Refusal::Question => 0,
+        Refusal::Room => 0,
+        Refusal::Length => 0,
+        Refusal::Character(_) => 0,
+        Refusal::Frame => 0,
+        Refusal::Manchester(_) => 0,
+        Refusal::Echo => 0,
+        Refusal::Pec => 0,
+        Refusal::Alive => 0,
+        Refusal::Check(b) => b,
+        Refusal::Count(b) => b,
+    }
+}
+
+// Document 01's number of a reading: 0 for accepted.
+pub fn number_of(reading: Reading) -> u8
+    ensures { λ r. ⌜ r ≡ numberOf reading ⌝ }
+{
+    match reading {
+        Reading::Counted(_) => 0,
+        Reading::Written => 0,
+        Reading::Values(_) => 0,
+        Reading::Refused(why) => refusal_number(why),
+    }
+}
+
+// The place of a reading that has one, else 0.
+pub fn place_of(reading: Reading) -> usize
+    ensures { λ r. ⌜ r ≡ placeOf reading ⌝ }
+{
+    match reading {
+        Reading::Counted(_) => 0,
+        Reading::Written => 0,
+        Reading::Values(_) => 0,
+        Reading::Refused(why) => refusal_place(why),
+    }
+}
+
+// The byte of a reading that has one, else 0.
+pub fn byte_of(reading: Reading) -> u8
+    ensures { λ r. ⌜ r ≡ byteOf reading ⌝ }
+{
+    match reading {
+        Reading::Counted(_) => 0,
+        Reading::Written => 0,
+        Reading::Values(_) => 0,
+        Reading::Refused(why) => refusal_byte(why),
+    }
+}
+
+// How many values a reading hands out.
+pub fn values_taken(reading: Reading) -> usize
+    ensures { λ r. ⌜ r ≡ valuesTaken reading ⌝ }
+{
+    match reading {
+        Reading::Counted(_) => 0,
+        Reading::Written => 0,
+        Reading::Values(m) => m,
+        Reading::Refused(_) => 0,
+    }
+}
