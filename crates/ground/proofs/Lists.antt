@@ -1,10 +1,14 @@
 -- Laws of lists that the library lacks.
-use mathlib.Core.Path.{_≡_, sym, ap, _∙_}
+use mathlib.Core.Path.{_≡_, sym, ap, ap₂, _∙_}
 use mathlib.Core.List.{List, [], _∷_, _++_}
-use Prim.Native.Nat.{ℕ, suc, _+_}
-use native.Mathlib.Nat.{add-zero, add-suc, suc-add}
-use lib.ListN.{length, set}
-use lib.Seq.{sets}
+use Prim.Native.Nat.{ℕ, zero, suc, _+_, _≤_}
+use native.Mathlib.Nat.{add-zero, add-suc, suc-add, zero-add}
+use native.Mathlib.Numerals.{add-one}
+use native.Mathlib.Omega.{arith}
+use lib.ListN.{length, drop, set}
+use lib.Seq.{sets, sets-eq}
+use Rattle.ground.specs.Sweep.{tabulated}
+use Rattle.ground.proofs.Sweep.{length-tabulated}
 
 -- two runs of stores, one behind the other
 pub sets-append : (l : List ℕ) (i : ℕ) (xs ys : List ℕ) → sets l i (xs ++ ys) ≡ sets (sets l i xs) (i + length xs) ys
@@ -12,3 +16,25 @@ sets-append l i [] ys = ap (λ (k : ℕ). sets l k ys) (sym (add-zero i))
 sets-append l i (x ∷ xs) ys =
     sets-append (set l i x) (suc i) xs ys
     ∙ ap (λ (k : ℕ). sets (sets (set l i x) (suc i) xs) k ys) (suc-add i (length xs) ∙ sym (add-suc i (length xs)))
+
+-- a run of stores from the start: the stored at the front, the rest as it was
+pub sets-front : (vs l : List ℕ) → length vs ≤ length l → sets l 0 vs ≡ vs ++ drop (length vs) l
+sets-front vs l h =
+    let room : 0 + length vs ≤ length l = omega arith in
+    sets-eq vs l 0 room ∙ ap (λ (k : ℕ). vs ++ drop k l) (zero-add (length vs))
+
+-- ---- a list filled from a rule, place by place
+
+tabulated-last : (f : ℕ → ℕ) (n i : ℕ) → tabulated f (suc n) i ≡ tabulated f n i ++ (f (i + n) ∷ [])
+tabulated-last f zero i = ap (λ (k : ℕ). f k ∷ []) (sym (add-zero i))
+tabulated-last f (suc n) i =
+    ap (λ (l : List ℕ). f i ∷ l)
+    (tabulated-last f n (suc i) ∙ ap (λ (k : ℕ). tabulated f n (suc i) ++ (f k ∷ [])) (suc-add i n ∙ sym (add-suc i n)))
+
+-- one more place
+pub filled-next : (f : ℕ → ℕ) (l : List ℕ) (k : ℕ) → set (sets l 0 (tabulated f k 0)) k (f k) ≡ sets l 0 (tabulated f (k + 1) 0)
+filled-next f l k =
+    sym (ap (λ (n : ℕ). sets l 0 (tabulated f n 0)) (add-one k) ∙ ap (sets l 0) (tabulated-last f k 0)
+    ∙ sets-append l 0 (tabulated f k 0) (f (0 + k) ∷ [])
+    ∙ ap₂ (λ (at from : ℕ). set (sets l 0 (tabulated f k 0)) at (f from)) (zero-add (length (tabulated f k 0)) ∙ length-tabulated f k 0)
+    (zero-add k))

@@ -3,14 +3,13 @@ use mathlib.Core.Path.{_≡_, refl, sym, ap, ap₂, _∙_}
 use mathlib.Core.Bool.{Bool, cond}
 use mathlib.Core.List.{List, [], _∷_, _++_}
 use Prim.Native.Nat.{ℕ, suc, _+_, _*_, _/_, _%_, _≤_, _<_}
-use native.Mathlib.Nat.{zero-add}
 use native.Mathlib.Numerals.{add-one}
 use native.Mathlib.Omega.{arith}
 use lib.Dec.{leb}
-use lib.ListN.{length, getD, take, drop, set}
-use lib.Seq.{sets, sets-eq, take-suc, length-take-le}
+use lib.ListN.{length, getD, take, set}
+use lib.Seq.{sets, take-suc, length-take-le}
 use borrow.Author.Tests.{le-leb, lt-leb}
-use Rattle.ground.proofs.Lists.{sets-append}
+use Rattle.ground.proofs.Lists.{sets-append, sets-front}
 use Rattle.characters.specs.Character.{preamble, stop}
 use Rattle.characters.specs.Nibble.{nibbleWord}
 use Rattle.lines.specs.Line.{charactersOf, lineOf}
@@ -47,11 +46,10 @@ pub stored-all : (bytes out : List ℕ) → 2 * length bytes + 2 ≤ length out
 unfolding lineOf
 stored-all bytes out h =
     let place : 1 + length (charactersOf bytes) ≡ 2 * length bytes + 1 = omega (arith, length-characters bytes) in
-    let room : 0 + length (lineOf bytes) ≤ length out = omega (arith, length-line bytes) in
+    let room : length (lineOf bytes) ≤ length out = omega (arith, length-line bytes) in
     ap (λ (k : ℕ). set (sets (set out 0 preamble) 1 (charactersOf bytes)) k stop) (sym place)
     ∙ sym (sets-append (set out 0 preamble) 1 (charactersOf bytes) (stop ∷ []))
-    ∙ sets-eq (lineOf bytes) out 0 room
-    ∙ ap (λ (k : ℕ). lineOf bytes ++ drop k out) (zero-add (length (lineOf bytes)))
+    ∙ sets-front (lineOf bytes) out room
 
 pub refused : (bytes out : List ℕ) → length out < 2 * length bytes + 2 → LinePut bytes out out NoRoom
 unfolding putOf outOf

@@ -1,2 +1,5 @@
 pub mod RowLaws
 pub mod Unless
+pub mod Accepted
+pub mod Part
+pub mod Agree

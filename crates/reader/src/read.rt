@@ -11,7 +11,7 @@ ghost use mathlib.Core.Path.{_≡_};
 ghost use Prim.Native.Nat.{_+_, _*_, _≤_, _<_};
 ghost use lib.ListN.{length};
 ghost use Rattle.lines.specs.Write.{atFront};
-ghost use Rattle.reader.specs.Read.{ReadDone, valueAt, valuesOn, orderOf, partOf};
+ghost use Rattle.reader.specs.Read.{ReadDone, valueAt, valuesOn, orderOf, carried, partOf};
 
 // Takes an answer or turns it away. A read's values go to the front of the output in address order, lowest first, and the rest stays.
 pub fn read(q: Question, line: &[u16], out: &mut [u16]) -> Reading
@@ -48,8 +48,7 @@ fn hand_out(line: &[u16], m: usize, out: &mut [u16])
 pub fn register_part<'a>(q: Question, line: &'a [u16], device: u8) -> &'a [u16]
     ensures { λ r. ⌜ now r ≡ partOf q (now (line .entry)) device ⌝ }
 {
-    let s = shape_of(q);
-    let m = values_taken(judge(q, line, s.values));
+    let m = carried_by(q, line);
     if m == 0 {
         return &line[..0];
     }
@@ -60,6 +59,15 @@ pub fn register_part<'a>(q: Question, line: &'a [u16], device: u8) -> &'a [u16]
     let start = 5 + 4 * (m - 1 - k);
     let end = start + 4;
     &line[start..end]
+}
+
+// How many values an accepted line carries: room plays no part.
+fn carried_by(q: Question, line: &[u16]) -> usize
+    ensures { λ r. ⌜ r ≡ carried q (now (line .entry)) ⌝ }
+{
+    let s = shape_of(q);
+    let room = s.values;
+    values_taken(judge(q, line, room))
 }
 
 // How many devices with values in the answer stand below this one.

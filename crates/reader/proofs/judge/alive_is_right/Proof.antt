@@ -26,11 +26,12 @@ shape-of-requires c κs = search needs
 
 add-byte-at : tie.Need-add-byte-at
 add-byte-at c =
-    omega
-    (arith,
-    ap (λ (s : Shape). s .covered) (c .shape-of .ensures),
-    covered-le (c .before .before .before .before .before .before .args .q),
-    c .before .before .before .before .before .before .good .0)
+    omega (
+      arith,
+      ap (λ (s : Shape). s .covered) (c .shape-of .ensures),
+      covered-le (c .before .before .before .before .before .before .args .q),
+      c .before .before .before .before .before .before .good .0,
+    )
 
 byte-at-requires : tie.Need-byte-at-requires
 byte-at-requires c κs = search needs

@@ -1,50 +1,64 @@
+-- `hand_out` meets its contract: the loop keeps the values passed at the front of the output, and all else as it was.
+use mathlib.Core.Path.{_≡_, refl, ap, _∙_}
+use mathlib.Core.List.{List}
+use Prim.Native.Nat.{ℕ, _+_, _-_, _≤_}
+use native.Mathlib.Omega.{arith}
+use lib.ListN.{length, set, length-set}
+use lib.Seq.{sets}
+use Rattle.ground.specs.Sweep.{tabulated}
+use Rattle.ground.proofs.Sweep.{length-tabulated}
+use Rattle.ground.proofs.Lists.{sets-front, filled-next}
+use Rattle.reader.specs.Read.{valueAt, valuesOn}
 use Rattle.reader.proofs.read.hand_out.Statement.{statement}
 use Rattle.reader.proofs.read.hand_out.Tie as tie
-use Rattle.reader.proofs.read.hand_out.Reads as reads
-use Rattle.reader.proofs.read.hand_out.Lts as lts
-use Rattle.reader.proofs.read.value_at.Reads as value-at-reads
 
 abbrev Inv-loop : tie.InvT-loop
-Inv-loop line m out₀ k₀ out k = ?
+Inv-loop line m out₀ k₀ out k =
+    (k ≤ m) × (out ≡ sets out₀ 0 (tabulated (valueAt line m) k 0)) × (length out ≡ length out₀)
 
 abbrev μ-loop : tie.MeasureT-loop
-μ-loop line m out₀ k₀ out k = ?
+μ-loop line m out₀ k₀ out k = m - k
 
--- src/read.rt:41:5
 loop-holds : tie.Need-loop-holds Inv-loop μ-loop
-loop-holds c = ?
+loop-holds c = (omega arith, refl, refl)
 
--- src/read.rt:42:18
 value-at-requires : tie.Need-value-at-requires Inv-loop μ-loop
-value-at-requires c κs = ?
+value-at-requires c κs = omega arith
 
--- src/read.rt:42:9
 mul-out : tie.Need-mul-out Inv-loop μ-loop
-mul-out c = ?
+mul-out c = omega arith
 
--- src/read.rt:42:9
 slice-write-out : tie.Need-slice-write-out Inv-loop μ-loop
-slice-write-out c = ?
+slice-write-out c = omega arith
 
--- src/read.rt:43:9
 add-k : tie.Need-add-k Inv-loop μ-loop
-add-k c = ?
+add-k c = omega arith
 
--- src/read.rt:41:5
 loop-less : tie.Need-loop-less Inv-loop μ-loop
-loop-less c = ?
+loop-less c = omega arith
 
--- src/read.rt:41:5
 loop-again : tie.Need-loop-again Inv-loop μ-loop
-loop-again c = ?
+loop-again c =
+    let a = c .before .before .before .before .before .args in
+    let at = c .before .before .loop in
+    let f = valueAt (a .line .now) (a .m) in (
+      omega arith,
+      ap (set (at .out) (at .k)) (c .value-at .ensures) ∙ ap (λ (l : List ℕ). set l (at .k) (f (at .k))) (at .inv .1)
+          ∙ filled-next f (a .out .now) (at .k),
+      length-set (at .out) (at .k) (c .value-at .result) ∙ at .inv .2,
+    )
 
--- src/read.rt:36:1
 same-length : tie.Need-same-length Inv-loop μ-loop
-same-length c = ?
+same-length c = c .before .loop .inv .2
 
--- src/read.rt:36:1
 returns : tie.Need-returns Inv-loop μ-loop
-returns c = ?
+returns c =
+    let a = c .before .before .before .before .args in
+    let at = c .before .loop in
+    let f = valueAt (a .line .now) (a .m) in
+    let all : at .k ≡ a .m = omega arith in
+    let room : length (valuesOn (a .line .now) (a .m)) ≤ length (a .out .now) = omega (arith, length-tabulated f (a .m) 0, c .before .before .before .before .pre .1) in
+    at .inv .1 ∙ ap (λ (n : ℕ). sets (a .out .now) 0 (tabulated f n 0)) all ∙ sets-front (valuesOn (a .line .now) (a .m)) (a .out .now) room
 
 pub hand-out-spec : {M : Type 1} → statement M
 hand-out-spec =

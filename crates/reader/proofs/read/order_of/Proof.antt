@@ -1,15 +1,22 @@
+-- `order_of` meets its contract: READALL's devices stand in address order, and every other kind has one at most.
+use mathlib.Core.Path.{sym, ap}
+use mathlib.Core.Bool.{Bool, cond}
+use borrow.Author.Tests.{eq-eqb, ne-eqb}
+use Rattle.reader.specs.Read.{orderOf}
 use Rattle.reader.proofs.read.order_of.Statement.{statement}
 use Rattle.reader.proofs.read.order_of.Tie as tie
-use Rattle.reader.proofs.read.order_of.Reads as reads
-use Rattle.reader.proofs.read.order_of.Lts as lts
 
--- src/read.rt:66:1
 returns : tie.Need-returns
-returns c = ?
+unfolding orderOf
+returns c =
+    let a = c .before .before .args in
+    sym (ap (λ (t : Bool). cond t (a .device) 0) (eq-eqb (a .q .kind) 3 (c .if1 .taken)))
 
--- src/read.rt:66:1
 returns-2 : tie.Need-returns-2
-returns-2 c = ?
+unfolding orderOf
+returns-2 c =
+    let a = c .before .before .args in
+    sym (ap (λ (t : Bool). cond t (a .device) 0) (ne-eqb (a .q .kind) 3 (c .if1 .left)))
 
 pub order-of-spec : {M : Type 1} → statement M
 order-of-spec = tie.close (tie.spec returns returns-2)

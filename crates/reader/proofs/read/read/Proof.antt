@@ -1,31 +1,42 @@
+-- `read` meets its contract: the values that the verdict carries are handed out, and there are none where it turned the line away.
+use mathlib.Core.Path.{_≡_, ap, _∙_}
+use mathlib.Core.List.{List}
+use Prim.Native.Nat.{ℕ}
+use native.Mathlib.Omega.{arith}
+use lib.ListN.{length}
+use Rattle.lines.specs.Write.{atFront}
+use Rattle.reader.specs.Reading.{valuesTaken}
+use Rattle.reader.specs.Read.{valuesOn}
+use Rattle.reader.proofs.Accepted.{values-fit}
 use borrow.Author.Needs.{needs}
 use Rattle.reader.proofs.read.read.Statement.{statement}
 use Rattle.reader.proofs.read.read.Tie as tie
-use Rattle.reader.proofs.read.read.Reads as reads
-use Rattle.reader.proofs.read.read.Lts as lts
-use Rattle.reader.proofs.judge.judge.Reads as judge-reads
-use Rattle.reader.proofs.read.hand_out.Reads as hand-out-reads
-use Rattle.reader.proofs.reading.values_taken.Reads as values-taken-reads
 
--- src/read.rt:20:9
 judge-requires : tie.Need-judge-requires
 judge-requires c κs = search needs
 
--- src/read.rt:21:20
 values-taken-requires : tie.Need-values-taken-requires
 values-taken-requires c κs = search needs
 
--- src/read.rt:21:5
 hand-out-requires : tie.Need-hand-out-requires
-hand-out-requires c κs = ?
+hand-out-requires c κs =
+    let a = c .before .before .before .before .before .args in
+    let count = c .before .values-taken .ensures ∙ ap valuesTaken (c .before .before .judge .ensures) in
+    let fit = values-fit (a .q) (a .line .now) (length (a .out .now)) in
+    (omega (arith, count, fit .0), omega (arith, count, fit .1))
 
--- src/read.rt:17:1
 same-length : tie.Need-same-length
 same-length c = search needs
 
--- src/read.rt:17:1
 returns : tie.Need-returns
-returns c = ?
+returns c =
+    let a = c .before .before .before .before .before .before .before .before .args in
+    let verdict = c .before .before .before .before .before .judge .ensures in
+    let count = c .before .before .before .before .values-taken .ensures ∙ ap valuesTaken verdict in
+    record {
+      says = verdict;
+      leaves = c .before .before .hand-out .ensures ∙ ap (λ (m : ℕ). atFront (valuesOn (a .line .now) m) (a .out .now)) count;
+    }
 
 pub read-spec : {M : Type 1} → statement M
 read-spec =

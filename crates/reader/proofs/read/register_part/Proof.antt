@@ -1,97 +1,100 @@
+-- `register_part` meets its contract: the part handed back lies inside an accepted line, at the named device's place.
+use mathlib.Core.Path.{_≡_, sym, ap, ap₂, _∙_}
+use Prim.Native.Nat.{ℕ, _+_, _-_, _*_, _≤_, _<_}
+use native.Mathlib.Omega.{arith}
+use borrow.Author.Tests.{not-true, not-false}
+use lib.ListN.{length, take, drop}
+use Rattle.reader.proofs.Part.{inside, part-there, no-part, not-put-to}
+use Rattle.reader.proofs.RowLaws.{positive}
 use borrow.Author.Needs.{needs}
 use Rattle.reader.proofs.read.register_part.Statement.{statement}
 use Rattle.reader.proofs.read.register_part.Tie as tie
-use Rattle.reader.proofs.read.register_part.Reads as reads
-use Rattle.reader.proofs.read.register_part.Lts as lts
-use Rattle.questions.proofs.question.is_covered.Reads as is-covered-reads
-use Rattle.questions.proofs.question.shape_of.Reads as shape-of-reads
-use Rattle.reader.proofs.judge.judge.Reads as judge-reads
-use Rattle.reader.proofs.read.order_of.Reads as order-of-reads
-use Rattle.reader.proofs.reading.values_taken.Reads as values-taken-reads
 
--- src/read.rt:51:9
-shape-of-requires : tie.Need-shape-of-requires
-shape-of-requires c κs = search needs
+-- what is known once the device's order is: few values, the order below them, the four characters inside the line
+there : (c : tie.After-order-of)
+    → (c .before .before .before .before .carried-by .result ≤ 32) × (c .order-of .result < c .before .before .before .before .carried-by .result)
+    × (5 + 4 * (c .before .before .before .before .carried-by .result - 1 - c .order-of .result) + 4 ≤ length (c .before .before .before .before .before .before .args .line .now))
+there c =
+    let a = c .before .before .before .before .before .before .args in
+    let m = c .before .before .before .before .carried-by in
+    let k = c .order-of in
+    let put-to = c .before .before .is-covered in
+    let at =
+    inside (a .q) (a .line .now) (a .device) (omega (arith, m .ensures, positive (m .result) (c .before .before .before .if1 .left)))
+    (sym (put-to .ensures) ∙ not-false (put-to .result) (c .before .if2 .left)) in
+    (omega (arith, m .ensures, at .few), omega (arith, m .ensures, k .ensures, at .order), omega (arith, m .ensures, k .ensures, at .within))
 
--- src/read.rt:52:26
-judge-requires : tie.Need-judge-requires
-judge-requires c κs = search needs
+carried-by-requires : tie.Need-carried-by-requires
+carried-by-requires c κs = search needs
 
--- src/read.rt:52:9
-values-taken-requires : tie.Need-values-taken-requires
-values-taken-requires c κs = search needs
-
--- src/read.rt:54:9
 slice-aggregate-result : tie.Need-slice-aggregate-result
 slice-aggregate-result c = search needs
 
--- src/read.rt:54:9
 returns : tie.Need-returns
-returns c = ?
+returns c =
+    let a = c .before .before .before .before .args in
+    no-part (a .q) (a .line .now) (a .device) (sym (c .before .before .carried-by .ensures) ∙ c .before .if1 .taken)
 
--- src/read.rt:56:9
 is-covered-requires : tie.Need-is-covered-requires
 is-covered-requires c κs = search needs
 
--- src/read.rt:57:9
 slice-aggregate-result-2 : tie.Need-slice-aggregate-result-2
 slice-aggregate-result-2 c = search needs
 
--- src/read.rt:57:9
 returns-2 : tie.Need-returns-2
-returns-2 c = ?
+returns-2 c =
+    let a = c .before .before .before .before .before .before .args in
+    let put-to = c .before .before .is-covered in
+    not-put-to (a .q) (a .line .now) (a .device) (sym (put-to .ensures) ∙ not-true (put-to .result) (c .before .if2 .taken))
 
--- src/read.rt:59:9
 order-of-requires : tie.Need-order-of-requires
 order-of-requires c κs = search needs
 
--- src/read.rt:60:26
 sub-start : tie.Need-sub-start
 sub-start c = search needs
 
--- src/read.rt:60:26
 sub-start-2 : tie.Need-sub-start-2
-sub-start-2 c = ?
+sub-start-2 c = omega (arith, there c)
 
--- src/read.rt:60:21
 mul-start : tie.Need-mul-start
-mul-start c = ?
+mul-start c = omega (arith, there c)
 
--- src/read.rt:60:17
 add-start : tie.Need-add-start
-add-start c = ?
+add-start c = omega (arith, there c)
 
--- src/read.rt:61:15
 add-end : tie.Need-add-end
-add-end c = ?
+add-end c = omega (arith, there c)
 
--- src/read.rt:62:5
 mul-result : tie.Need-mul-result
-mul-result c = ?
+mul-result c = omega (arith, there c)
 
--- src/read.rt:62:5
 sub-result : tie.Need-sub-result
 sub-result c = search needs
 
--- src/read.rt:62:5
 part-result-start : tie.Need-part-result-start
 part-result-start c = search needs
 
--- src/read.rt:62:5
 part-result-end : tie.Need-part-result-end
-part-result-end c = ?
+part-result-end c = omega (arith, there c)
 
--- src/read.rt:48:1
 returns-3 : tie.Need-returns-3
-returns-3 c = ?
+returns-3 c =
+    let a = c .before .before .before .before .before .before .before .args in
+    let m = c .before .before .before .before .before .carried-by in
+    let k = c .before .order-of in
+    let put-to = c .before .before .before .is-covered in
+    let start = 5 + 4 * (m .result - 1 - k .result) in
+    let four : start + 4 - start ≡ 4 = omega arith in
+    ap (λ (n : ℕ). take n (drop start (a .line .now))) four
+    ∙ ap₂ (λ (m k : ℕ). take 4 (drop (5 + 4 * (m - 1 - k)) (a .line .now))) (m .ensures) (k .ensures)
+    ∙ part-there (a .q) (a .line .now) (a .device) (omega (arith, m .ensures, positive (m .result) (c .before .before .before .before .if1 .left)))
+    (sym (put-to .ensures) ∙ not-false (put-to .result) (c .before .before .if2 .left))
 
 pub register-part-spec : {M : Type 1} → statement M
 register-part-spec =
     tie.close
     (tie.spec
-    shape-of-requires
-    judge-requires
-    values-taken-requires
+    carried-by-requires
     slice-aggregate-result
     returns
     is-covered-requires
