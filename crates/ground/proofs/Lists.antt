@@ -1,12 +1,12 @@
 -- Laws of lists that the library lacks.
 use mathlib.Core.Path.{_≡_, sym, ap, ap₂, _∙_}
-use mathlib.Core.List.{List, [], _∷_, _++_}
-use Prim.Native.Nat.{ℕ, zero, suc, _+_, _≤_}
+use mathlib.Core.List.{List, [], _∷_, _++_, append-assoc}
+use Prim.Native.Nat.{ℕ, zero, suc, _+_, _≤_, _<_}
 use native.Mathlib.Nat.{add-zero, add-suc, suc-add, zero-add}
 use native.Mathlib.Numerals.{add-one}
 use native.Mathlib.Omega.{arith}
-use lib.ListN.{length, drop, set}
-use lib.Seq.{sets, sets-eq}
+use lib.ListN.{length, getD, take, drop, set}
+use lib.Seq.{sets, sets-eq, take-suc}
 use Rattle.ground.specs.Sweep.{tabulated}
 use Rattle.ground.proofs.Sweep.{length-tabulated}
 
@@ -38,3 +38,9 @@ filled-next f l k =
     ∙ sets-append l 0 (tabulated f k 0) (f (0 + k) ∷ [])
     ∙ ap₂ (λ (at from : ℕ). set (sets l 0 (tabulated f k 0)) at (f from)) (zero-add (length (tabulated f k 0)) ∙ length-tabulated f k 0)
     (zero-add k))
+
+-- two more of a list
+pub take-two : (l : List ℕ) (k : ℕ) → suc k < length l → take (suc (suc k)) l ≡ take k l ++ (getD l k 0 ∷ getD l (suc k) 0 ∷ [])
+take-two l k h =
+    take-suc l (suc k) 0 h ∙ ap (λ (x : List ℕ). x ++ (getD l (suc k) 0 ∷ [])) (take-suc l k 0 (omega arith))
+    ∙ append-assoc (take k l) (getD l k 0 ∷ []) (getD l (suc k) 0 ∷ [])

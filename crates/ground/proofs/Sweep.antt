@@ -1,9 +1,11 @@
 -- What a test of every number below a bound shows of each of them.
-use mathlib.Core.Path.{_≡_, refl, sym, ap, _∙_}
+use mathlib.Core.Path.{_≡_, refl, sym, ap, ap₂, _∙_}
 use mathlib.Core.Bool.{Bool, true}
 use mathlib.Core.Logic.{⊎-elim}
+use mathlib.Core.List.{List, _∷_}
 use Prim.Native.Nat.{ℕ, zero, suc, _+_, _<_}
 use native.Mathlib.Nat.{eq-or-lt-of-le, le-of-suc-le-suc, not-suc-le-zero, add-zero, add-suc, suc-add}
+use native.Mathlib.Omega.{arith}
 use lib.ListN.{length, getD}
 use Rattle.ground.specs.Sweep.{every, tabulated}
 use Rattle.ground.proofs.Test.{and-left, and-right}
@@ -26,3 +28,9 @@ tabulated-at f (suc n) i (suc k) h = tabulated-at f n (suc i) k (le-of-suc-le-su
 pub length-tabulated : (f : ℕ → ℕ) (n i : ℕ) → length (tabulated f n i) ≡ n
 length-tabulated f zero i = refl
 length-tabulated f (suc n) i = ap suc (length-tabulated f n (suc i))
+
+-- two rules that agree at the places of a table make the same table
+pub tabulated-same : (f g : ℕ → ℕ) (n i : ℕ) → ((k : ℕ) → k < i + n → f k ≡ g k) → tabulated f n i ≡ tabulated g n i
+tabulated-same f g zero i h = refl
+tabulated-same f g (suc n) i h =
+    ap₂ (λ (x : ℕ) (l : List ℕ). x ∷ l) (h i (omega arith)) (tabulated-same f g n (suc i) (λ k lt. h k (omega arith)))

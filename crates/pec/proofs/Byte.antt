@@ -2,19 +2,21 @@
 use mathlib.Core.Path.{_≡_, refl, sym, ap, ap₂, _∙_}
 use mathlib.Core.Bool.{Bool, true, _&&_, _||_, cond}
 use mathlib.Core.Logic.{⊎-elim}
-use Prim.Native.Nat.{ℕ, _+_, _-_, _*_, _/_, _%_, _^_, _<_}
+use mathlib.Core.List.{List, [], _∷_}
+use Prim.Native.Nat.{ℕ, suc, _+_, _-_, _*_, _/_, _%_, _^_, _<_}
 use native.Mathlib.Nat.{mod-lt, zero-lt-suc}
 use native.Mathlib.Omega.{arith}
-use lib.Bits.{bitXor, xor-zero-r}
-use lib.Dec.{eqb, ltb}
+use lib.Bits.{bitXor, xor-zero-r, xor-lt}
+use lib.Dec.{eqb, ltb, lit<}
 use borrow.Author.Tests.{ltb-true, eqb-true}
 use Rattle.ground.specs.Sweep.{every}
 use Rattle.ground.proofs.Test.{and-left, and-right, or-cases}
 use Rattle.ground.proofs.Sweep.{swept}
-use Rattle.remainder.specs.Register.{times, shift, lowestFirst, Linear, LinearIn}
+use Rattle.remainder.specs.Register.{times, run, shift, lowestFirst, Linear, LinearIn}
+use Rattle.remainder.specs.Turned.{Bytes}
 use Rattle.remainder.proofs.Xor.{digit, xor-swap}
 use Rattle.remainder.proofs.Linear.{times-linear, lowest-first-linear}
-use Rattle.pec.specs.Pec.{poly, bitStep, byteStep}
+use Rattle.pec.specs.Pec.{poly, bitStep, byteStep, pecOf}
 
 -- The constant is the polynomial's, x^8 + x^6 + x^3 + x^2 + 1 lowest bit first: x^e stands at bit 7 - e, and x^8 is the bit that falls out.
 polynomial : poly ≡ 2 ^ (7 - 6) + 2 ^ (7 - 3) + 2 ^ (7 - 2) + 2 ^ (7 - 0)
@@ -65,3 +67,14 @@ unfolding kept
 eight-pos crc p h =
     ⊎-elim (λ e. absurd (omega (arith, eqb-true crc 0 e))) (λ e. ltb-true 0 (eightBits crc) e)
     (or-cases (eqb crc 0) _ (and-right (ltb (eightBits crc) 256) _ (swept kept 256 all-kept crc h)))
+
+-- a PEC is a byte
+pub run-lt : (crc : ℕ) (bytes : List ℕ) → crc < 256 → Bytes bytes → run byteStep crc bytes < 256
+unfolding run
+run-lt crc [] h b = h
+run-lt crc (x ∷ bytes) h b =
+    run-lt (byteStep crc x) bytes (rw byte-is (eight-lt (bitXor crc x) (xor-lt 8 crc x h (b 0)))) (λ i. b (suc i))
+
+pub pec-lt : (bytes : List ℕ) → Bytes bytes → pecOf bytes < 256
+unfolding pecOf
+pec-lt bytes b = run-lt 0 bytes (lit< tt) b
