@@ -86,7 +86,7 @@ module _ (q : Question) (line : List ℕ) (room : ℕ) (t : Taken q line room) w
         let count = shapeOf q .covered + 1 + q .alive in
         let size = length-own count words in
         let pec : getD (bytesOf line) (length covered) 0 ≡ pecOf covered =
-            ap (λ (k : ℕ). getD (bytesOf line) k 0) len ∙ at count words (shapeOf q .covered) (omega arith) ∙ pec-is lo ∙ ap pecOf front in
+        ap (λ (k : ℕ). getD (bytesOf line) k 0) len ∙ at count words (shapeOf q .covered) (omega arith) ∙ pec-is lo ∙ ap pecOf front in
         is-sealed q (shapeOf q .acting) (good-alive q (t .good)) (bytesOf line) covered
         (size ∙ ap (λ (k : ℕ). k + 1 + q .alive) (sym len))
         (ap (λ (k : ℕ). take k (bytesOf line)) len ∙ front)
@@ -136,11 +136,11 @@ module _ (q : Question) (line : List ℕ) (room : ℕ) (t : Taken q line room) w
       let both : (eqb (byteAt line 1) (q .reg) && valueEchoed q line) ≡ true = sym (of-write (q .kind) _ _ _ lo hi) ∙ rest-is q line room t in
       let value = and-right (eqb (byteAt line 1) (q .reg)) _ both in
       let four : take 4 (bytesOf line) ≡ writeCovered q =
-          take-four (bytesOf line) (omega (arith, length-own q line room t count words, s .covered))
-          ∙ ap₂ (λ (x y : ℕ). x ∷ y ∷ getD (bytesOf line) 2 0 ∷ getD (bytesOf line) 3 0 ∷ []) (here 0 (lit< tt) ∙ first-is q line room t)
-          (here 1 (lit< tt) ∙ eqb-true (byteAt line 1) (q .reg) (and-left _ _ both))
-          ∙ ap₂ (λ (x y : ℕ). shapeOf q .first ∷ q .reg ∷ x ∷ y ∷ []) (here 2 (lit< tt) ∙ eqb-true (byteAt line 2) (q .value % 256) (and-left _ _ value))
-          (here 3 (lit< tt) ∙ eqb-true (byteAt line 3) (q .value / 256) (and-right (eqb (byteAt line 2) (q .value % 256)) _ value)) in
+      take-four (bytesOf line) (omega (arith, length-own q line room t count words, s .covered))
+      ∙ ap₂ (λ (x y : ℕ). x ∷ y ∷ getD (bytesOf line) 2 0 ∷ getD (bytesOf line) 3 0 ∷ []) (here 0 (lit< tt) ∙ first-is q line room t)
+      (here 1 (lit< tt) ∙ eqb-true (byteAt line 1) (q .reg) (and-left _ _ both))
+      ∙ ap₂ (λ (x y : ℕ). shapeOf q .first ∷ q .reg ∷ x ∷ y ∷ []) (here 2 (lit< tt) ∙ eqb-true (byteAt line 2) (q .value % 256) (and-left _ _ value))
+      (here 3 (lit< tt) ∙ eqb-true (byteAt line 3) (q .value / 256) (and-right (eqb (byteAt line 2) (q .value % 256)) _ value)) in
       closed q line room t lo words (writeCovered q) (sym (s .covered)) (ap (λ (k : ℕ). take k (bytesOf line)) (s .covered) ∙ four)
       ∙ sym (of-write (q .kind) _ _ _ lo hi)
 
@@ -186,8 +186,8 @@ module _ (q : Question) (line : List ℕ) (room : ℕ) (t : Taken q line room) w
         let last : shapeOf q .covered - 1 ≡ 2 + 2 * m = omega (arith, read-shape q lo .covered) in
         let within : 2 * m < length (drop 2 (bytesOf line)) = omega (arith, length-drop 2 (bytesOf line)) in
         let check : getD (drop 2 (bytesOf line)) (2 * m) 0 ≡ 0 =
-            getD-drop 2 (bytesOf line) (2 * m) 0 ∙ here (2 + 2 * m) (omega arith)
-            ∙ ap (byteAt line) (sym last) ∙ read-check q line lo ∙ t .check in
+        getD-drop 2 (bytesOf line) (2 * m) 0 ∙ here (2 + 2 * m) (omega arith)
+        ∙ ap (byteAt line) (sym last) ∙ read-check q line lo ∙ t .check in
         ap (λ (k : ℕ). take k (bytesOf line)) covered ∙ take-more (bytesOf line) (suc (2 * m)) (omega arith)
         ∙ ap₂ (λ (x y : ℕ). x ∷ y ∷ take (suc (2 * m)) (drop 2 (bytesOf line))) (here 0 (omega arith) ∙ first-is q line room t)
         (here 1 (omega arith) ∙ eqb-true (byteAt line 1) (q .reg) (sym (of-read (q .kind) _ _ _ lo) ∙ rest-is q line room t))
@@ -245,10 +245,10 @@ module _ (q : Question) (line : List ℕ) (room : ℕ) (accepted : numberOf (jud
         values = b ∷ [];
         answer = record {
           fitting = hello e (record { count = b; only = refl; least = right .0; most = right .1 });
-          written = answer-line (b ∷ []) 3 (ap (λ s. s .words) (hello-shape q e)) (hello-bytes q line room taken e)
+          written = answer-line (b ∷ []) 3 (ap (λ s. s .words) (hello-shape q e)) (hello-bytes q line room taken e);
         };
         reading = reading ∙ sym (of-hello (q .kind) _ _ _ e);
-        handed = ap (λ r. valuesOn line (valuesTaken r)) reading ∙ sym (of-hello (q .kind) _ _ _ e)
+        handed = ap (λ r. valuesOn line (valuesTaken r)) reading ∙ sym (of-hello (q .kind) _ _ _ e);
       }
 
   write-answered : 1 ≤ q .kind → q .kind ≤ 2 → Answered q line room
@@ -260,7 +260,7 @@ module _ (q : Question) (line : List ℕ) (room : ℕ) (accepted : numberOf (jud
         values = [];
         answer = record { fitting = write lo hi refl; written = answer-line [] (5 + q .alive) words (write-bytes q line room taken lo hi) };
         reading = reading ∙ sym (of-write (q .kind) _ _ _ lo hi);
-        handed = ap (λ r. valuesOn line (valuesTaken r)) reading ∙ sym (of-write (q .kind) _ _ _ lo hi)
+        handed = ap (λ r. valuesOn line (valuesTaken r)) reading ∙ sym (of-write (q .kind) _ _ _ lo hi);
       }
 
   read-answered : 3 ≤ q .kind → Answered q line room
@@ -273,10 +273,10 @@ module _ (q : Question) (line : List ℕ) (room : ℕ) (accepted : numberOf (jud
         values = valuesOn line m;
         answer = record {
           fitting = read lo (record { number = length-tabulated (valueAt line m) m 0; registers = register-values line m });
-          written = answer-line (valuesOn line m) (2 * m + 4 + q .alive) words (read-bytes q line room taken lo)
+          written = answer-line (valuesOn line m) (2 * m + 4 + q .alive) words (read-bytes q line room taken lo);
         };
         reading = reading ∙ sym (of-read (q .kind) _ _ _ lo);
-        handed = ap (λ r. valuesOn line (valuesTaken r)) reading ∙ sym (of-read (q .kind) _ _ _ lo)
+        handed = ap (λ r. valuesOn line (valuesTaken r)) reading ∙ sym (of-read (q .kind) _ _ _ lo);
       }
 
   -- An accepted line is the line of a right answer: of some count 1..32, of the one write's answer, or of as many register values as asked

@@ -1,3 +1,4 @@
 pub mod Wire
 pub mod Sealed
 pub mod AcceptedIsAnAnswer
+pub mod AnswerIsAccepted

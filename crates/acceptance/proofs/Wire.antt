@@ -67,7 +67,7 @@ module _ (l : List ℕ) (b : Bytes l) (m : ℕ) (room : 2 + 2 * m ≤ length l) 
       let low = getD l (2 + 2 * n) 0 in
       let high = getD l (2 + 2 * n + 1) 0 in
       let value : valueIn (m - suc n) ≡ low + 256 * high =
-          ap (λ (k : ℕ). getD l (2 + 2 * k) 0 + 256 * getD l (2 + 2 * k + 1) 0) place in
+      ap (λ (k : ℕ). getD l (2 + 2 * k) 0 + 256 * getD l (2 + 2 * k + 1) 0) place in
       two-more n h
       ∙ ap₂ (λ (x y : List ℕ). x ++ y) (wire-read n (omega arith) ∙ ap (λ (k : ℕ). onWire (tabulated valueIn n k)) (sym next))
       (ap₂ (λ (x y : ℕ). x ∷ y ∷ []) (sym (split-low low high (b (2 + 2 * n)))) (sym (split-high low high (b (2 + 2 * n))))
