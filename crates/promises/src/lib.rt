@@ -1,0 +1,1 @@
+// Theorems only: there is no code here.
