@@ -73,13 +73,28 @@ module _ (q : Question) (is : q .kind ≡ readAll) (good : goodQuestion q ≡ tr
     same-length : length (varied values) ≡ length (varied other)
     same-length = omega (arith, length-varied values, length-varied other, same-number)
 
+    sealed-long : length (sealed q (shapeOf q .acting) (readCovered q values 0)) ≡ length (sealed q (shapeOf q .acting) (readCovered q other 0))
+    sealed-long =
+        omega (
+          arith,
+          length-sealed q (shapeOf q .acting) (good-alive q good) (readCovered q values 0),
+          length-sealed q (shapeOf q .acting) (good-alive q good) (readCovered q other 0),
+          length-varied values,
+          length-varied other,
+          same-number,
+        )
+
+    pub answers-long : length (lineOf (answerBytes q values 0)) ≡ length (lineOf (answerBytes q other 0))
+    answers-long =
+        length-line (answerBytes q values 0)
+        ∙ ap (λ (k : ℕ). 2 * k + 2) (ap length (answer values) ∙ sealed-long ∙ sym (ap length (answer other)))
+        ∙ sym (length-line (answerBytes q other 0))
+
     -- the two lines differ in twice as many bits as the answers
     pub lines-apart : distance (lineOf (answerBytes q values 0)) (lineOf (answerBytes q other 0)) ≡ 2 * apartBy start (varied values) (varied other)
     lines-apart =
-        let size : length (sealed q (shapeOf q .acting) (readCovered q values 0)) ≡ length (sealed q (shapeOf q .acting) (readCovered q other 0)) =
-            omega (arith, length-sealed q (shapeOf q .acting) (good-alive q good) (readCovered q values 0), length-sealed q (shapeOf q .acting) (good-alive q good) (readCovered q other 0), length-varied values, length-varied other, same-number) in
         ap₂ (λ (x y : List ℕ). distance (lineOf x) (lineOf y)) (answer values) (answer other)
-        ∙ line-distance _ _ size (answer-are-bytes values (fits .registers)) (answer-are-bytes other (fits′ .registers))
+        ∙ line-distance _ _ sealed-long (answer-are-bytes values (fits .registers)) (answer-are-bytes other (fits′ .registers))
         ∙ ap (λ (d : ℕ). 2 * d) (apart values other same-number)
 
     -- answers that do not differ are no bits apart
@@ -101,10 +116,18 @@ module _ (q : Question) (is : q .kind ≡ readAll) (good : goodQuestion q ≡ tr
       -- two bits apart at least, and three where they are few: four and six on the line
       pub four-at-least : 4 ≤ weight masks
       four-at-least =
-          omega (arith, twice, distance-two start (varied values) (varied other) same-length (varied-bytes values (fits .registers))
-          (varied-bytes other (fits′ .registers)) differ)
+          omega (
+            arith,
+            twice,
+            distance-two start (varied values) (varied other) same-length (varied-bytes values (fits .registers))
+                (varied-bytes other (fits′ .registers)) differ,
+          )
 
       pub six-at-least : length values ≤ 14 → 6 ≤ weight masks
       six-at-least few =
-          omega (arith, twice, distance-three start (varied values) (varied other) same-length (omega (arith, length-varied values))
-          (varied-bytes values (fits .registers)) (varied-bytes other (fits′ .registers)) differ)
+          omega (
+            arith,
+            twice,
+            distance-three start (varied values) (varied other) same-length (omega (arith, length-varied values))
+                (varied-bytes values (fits .registers)) (varied-bytes other (fits′ .registers)) differ,
+          )

@@ -52,9 +52,10 @@ module _ (q : Question) (is : q .kind ≡ readAll) (good : goodQuestion q ≡ tr
     pub undamaged : (after : List ℕ) (r : Reading) → ReadDone q line before after r → (r ≡ Values (q .n)) × (after ≡ atFront values before)
     undamaged after r done =
         let sent : AnswerTo q values line = record { fitting = read (omega arith) fits; written = refl } in
-        let answered = answer-is-accepted q good s (length before) (omega (arith, wanted)) values line sent in
-        (done .says ∙ answered .0 ∙ of-read (q .kind) _ _ _ (omega arith) ∙ ap Values wanted,
-        done .leaves ∙ ap (λ (l : List ℕ). atFront l before) (answered .1 ∙ of-read (q .kind) _ _ _ (omega arith)))
+        let answered = answer-is-accepted q good s (length before) (omega (arith, wanted)) values line sent in (
+          done .says ∙ answered .0 ∙ of-read (q .kind) _ _ _ (omega arith) ∙ ap Values wanted,
+          done .leaves ∙ ap (λ (l : List ℕ). atFront l before) (answered .1 ∙ of-read (q .kind) _ _ _ (omega arith)),
+        )
 
     -- a damaged line that is accepted is another answer's line
     by-another : (masks : List ℕ) → ((other : List ℕ) → AllValues q other → turned line masks ≡ lineOf (answerBytes q other 0) → ⊥)
@@ -74,9 +75,10 @@ module _ (q : Question) (is : q .kind ≡ readAll) (good : goodQuestion q ≡ tr
 
     refused : (masks after : List ℕ) (r : Reading) → TurnedAway (judgeOf q (turned line masks) (length before))
         → ReadDone q (turned line masks) before after r → TurnedAway r × (after ≡ before)
-    refused masks after r away done =
-        (omega (arith, ap numberOf (done .says)),
-        done .leaves ∙ ap (λ (m : ℕ). atFront (valuesOn (turned line masks) m) before) (nothing-out (judgeOf q (turned line masks) (length before)) away))
+    refused masks after r away done = (
+      omega (arith, ap numberOf (done .says)),
+      done .leaves ∙ ap (λ (m : ℕ). atFront (valuesOn (turned line masks) m) before) (nothing-out (judgeOf q (turned line masks) (length before)) away),
+    )
 
     -- With 1 to 14 devices and one to five bits turned over, it is turned away.
     pub five-bits : q .n ≤ 14 → (masks : List ℕ) → Damage line masks 5 → (after : List ℕ) (r : Reading) → ReadDone q (turned line masks) before after r

@@ -1,2 +1,3 @@
 pub mod Apart
 pub mod Demand3
+pub mod WhereItEnds
