@@ -1,2 +1,3 @@
 pub mod Damage
 pub mod Ends
+pub mod Acceptance

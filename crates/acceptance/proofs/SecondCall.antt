@@ -1,0 +1,82 @@
+-- The second call and the first agree: the part handed back for a device, decoded, is the value that `read` gave for that device.
+use mathlib.Core.Path.{_≡_, refl, sym, ap, ap₂, _∙_}
+use mathlib.Core.Bool.{Bool, true}
+use mathlib.Core.List.{List}
+use Prim.Native.Nat.{ℕ, _+_, _-_, _*_, _≤_, _<_}
+use native.Mathlib.Nat.{zero-add, le-refl}
+use native.Mathlib.Omega.{arith}
+use lib.Dec.{eqb, lit<}
+use lib.ListN.{length, getD, take, drop, length-take, length-drop, List·getD-append}
+use lib.Seq.{getD-take, getD-drop}
+use borrow.Author.Tests.{le-leb}
+use Rattle.ground.proofs.Sweep.{tabulated-at, length-tabulated}
+use Rattle.characters.specs.Nibble.{trueBits}
+use Rattle.lines.specs.Line.{byteAt}
+use Rattle.lines.specs.Write.{atFront}
+use Rattle.questions.specs.Question.{covers, goodQuestion}
+use Rattle.questions.specs.Shape.{shapeOf}
+use Rattle.questions.specs.declared.question.Question.{Question}
+use Rattle.reader.specs.Reading.{valuesTaken}
+use Rattle.reader.specs.Judge.{unless, judgeWords, judgeOf}
+use Rattle.reader.specs.Read.{valueAt, valuesOn, ReadDone, orderOf, carried, partOf}
+use Rattle.reader.specs.declared.reading.Reading.{Reading}
+use Rattle.reader.specs.declared.reading.Refusal.the-variants as refusal
+use Rattle.reader.proofs.Accepted.{some-values}
+use Rattle.reader.proofs.Part.{inside, part-there}
+use Rattle.acceptance.specs.Part.{partValue}
+
+-- four characters from a place, read as a value
+part-value : (line : List ℕ) (m k : ℕ) → partValue (take 4 (drop (5 + 4 * (m - 1 - k)) line)) ≡ valueAt line m k
+unfolding valueAt byteAt
+part-value line m k =
+    let start = 5 + 4 * (m - 1 - k) in
+    let x = m - 1 - k in
+    let here : (j : ℕ) → j < 4 → getD (take 4 (drop start line)) j 0 ≡ getD line (start + j) 0 =
+    λ j h. getD-take 4 (drop start line) j 0 h ∙ getD-drop start line j 0 in
+    let p0 : start + 0 ≡ 1 + 2 * (2 + 2 * x) = omega arith in
+    let p1 : start + 1 ≡ 2 + 2 * (2 + 2 * x) = omega arith in
+    let p2 : start + 2 ≡ 1 + 2 * (2 + 2 * x + 1) = omega arith in
+    let p3 : start + 3 ≡ 2 + 2 * (2 + 2 * x + 1) = omega arith in
+    let word : (j i : ℕ) → j < 4 → start + j ≡ i → getD (take 4 (drop start line)) j 0 ≡ getD line i 0 =
+    λ j i h e. here j h ∙ ap (λ (k : ℕ). getD line k 0) e in
+    ap₂ (λ (low high : ℕ). low + 256 * high)
+    (ap₂ (λ (a b : ℕ). trueBits a + 16 * trueBits b) (word 0 _ (lit< tt) p0) (word 1 _ (lit< tt) p1))
+    (ap₂ (λ (a b : ℕ). trueBits a + 16 * trueBits b) (word 2 _ (lit< tt) p2) (word 3 _ (lit< tt) p3))
+
+module _ (q : Question) (line : List ℕ) (a : ℕ) (some : 0 < carried q line) (put-to : covers q a ≡ true) where
+  -- decoded, the part is the device's value among those that `read` hands out
+  pub part-is-the-value : partValue (partOf q line a) ≡ getD (valuesOn line (carried q line)) (orderOf q a) 0
+  part-is-the-value =
+      let m = carried q line in
+      let k = orderOf q a in
+      ap partValue (sym (part-there q line a some put-to)) ∙ part-value line m k
+      ∙ sym (tabulated-at (valueAt line m) m 0 k (inside q line a some put-to .order) ∙ ap (valueAt line m) (zero-add k))
+
+  -- it has four characters
+  pub part-has-four : length (partOf q line a) ≡ 4
+  part-has-four =
+      let start = 5 + 4 * (carried q line - 1 - orderOf q a) in
+      let within = inside q line a some put-to .within in
+      ap length (sym (part-there q line a some put-to)) ∙ length-take 4 (drop start line) ∙ omega (arith, length-drop start line)
+
+-- where there is room, room plays no part
+enough-room : (q : Question) (line : List ℕ) (room : ℕ) → shapeOf q .values ≤ room → judgeOf q line room ≡ judgeOf q line (shapeOf q .values)
+unfolding judgeOf
+enough-room q line room h =
+    ap (λ (t : Bool). unless (goodQuestion q) refusal.Question (unless t refusal.Room (unless (eqb (length line) (shapeOf q .words)) refusal.Length (judgeWords q line))))
+    (le-leb (shapeOf q .values) room h ∙ sym (le-leb (shapeOf q .values) (shapeOf q .values) (le-refl (shapeOf q .values))))
+
+-- After a `read` that handed out values, the output holds at a device's place what the second call's part says.
+pub second-call-agrees : (q : Question) (line before after : List ℕ) (r : Reading) → ReadDone q line before after r → 0 < valuesTaken r
+    → (a : ℕ) → covers q a ≡ true → getD after (orderOf q a) 0 ≡ partValue (partOf q line a)
+second-call-agrees q line before after r done some a put-to =
+    let verdict = judgeOf q line (length before) in
+    let positive : 0 < valuesTaken verdict = omega (arith, ap valuesTaken (done .says)) in
+    let c = some-values q line (length before) positive in
+    let same : valuesTaken verdict ≡ carried q line = ap valuesTaken (enough-room q line (length before) (c .taken .enough)) in
+    let there : 0 < carried q line = omega arith in
+    let below : orderOf q a < length (valuesOn line (carried q line)) =
+    omega (arith, length-tabulated (valueAt line (carried q line)) (carried q line) 0, inside q line a there put-to .order) in
+    ap (λ (l : List ℕ). getD l (orderOf q a) 0) (done .leaves ∙ ap (λ (m : ℕ). atFront (valuesOn line m) before) same)
+    ∙ List·getD-append (valuesOn line (carried q line)) (drop (length (valuesOn line (carried q line))) before) 0 (orderOf q a) below
+    ∙ sym (part-is-the-value q line a there put-to)
