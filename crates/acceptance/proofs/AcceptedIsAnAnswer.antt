@@ -26,10 +26,10 @@ use Rattle.questions.specs.declared.question.Question.{Question}
 use Rattle.questions.proofs.ByKind.{of-hello, of-write, of-read}
 use Rattle.questions.proofs.Good.{good-alive, hello-shape, write-shape, read-shape}
 use Rattle.reader.specs.Rows.{valueEchoed, echoed, pecHeld, pecRight, aliveHeld, aliveRight, checkByte, settledCount, settled}
-use Rattle.reader.specs.Reading.{numberOf, valuesTaken}
+use Rattle.readings.specs.Reading.{numberOf, valuesTaken}
 use Rattle.reader.specs.Judge.{judgeOf}
-use Rattle.reader.specs.declared.reading.Refusal.the-variants.{Count}
-use Rattle.reader.specs.declared.reading.Reading.the-variants.{Counted, Written, Values, Refused}
+use Rattle.readings.specs.declared.Refusal.the-variants.{Count}
+use Rattle.readings.specs.declared.Reading.the-variants.{Counted, Written, Values, Refused}
 use Rattle.reader.specs.Read.{valueAt, valuesOn}
 use Rattle.reader.proofs.Accepted.{Taken, taken-settles, accepted-takes}
 use Rattle.reader.proofs.RowLaws.{other-pec, some-alive, read-check, hello-settled, write-settled, read-settled, count-right}

@@ -22,11 +22,11 @@ use Rattle.questions.specs.Bytes.{lowHigh, onWire, aliveByte, sealed, writeCove
 use Rattle.questions.specs.declared.question.Question.{Question}
 use Rattle.questions.proofs.ByKind.{of-hello, of-write, of-read}
 use Rattle.questions.proofs.Good.{good-alive, good-first, hello-shape, write-shape, read-shape}
-use Rattle.reader.specs.Reading.{valuesTaken}
+use Rattle.readings.specs.Reading.{valuesTaken}
 use Rattle.reader.specs.Rows.{valueEchoed, echoed, pecRight, aliveRight, checkByte, settledCount}
 use Rattle.reader.specs.Judge.{judgeOf}
 use Rattle.reader.specs.Read.{valueAt, valuesOn}
-use Rattle.reader.specs.declared.reading.Reading.the-variants.{Counted, Written, Values}
+use Rattle.readings.specs.declared.Reading.the-variants.{Counted, Written, Values}
 use Rattle.reader.proofs.Accepted.{Taken, taken-settles}
 use Rattle.reader.proofs.RowLaws
 use Rattle.acceptance.specs.Answer.{Registers, OneCount, AllValues, Fitting, AnswerTo, Answered, readingOf, handedOut, Sendable}

@@ -16,11 +16,11 @@ use Rattle.lines.specs.Write.{atFront}
 use Rattle.questions.specs.Question.{covers, goodQuestion}
 use Rattle.questions.specs.Shape.{shapeOf}
 use Rattle.questions.specs.declared.question.Question.{Question}
-use Rattle.reader.specs.Reading.{valuesTaken}
+use Rattle.readings.specs.Reading.{valuesTaken}
 use Rattle.reader.specs.Judge.{unless, judgeWords, judgeOf}
 use Rattle.reader.specs.Read.{valueAt, valuesOn, ReadDone, orderOf, carried, partOf}
-use Rattle.reader.specs.declared.reading.Reading.{Reading}
-use Rattle.reader.specs.declared.reading.Refusal.the-variants as refusal
+use Rattle.readings.specs.declared.Reading.{Reading}
+use Rattle.readings.specs.declared.Refusal.the-variants as refusal
 use Rattle.reader.proofs.Accepted.{some-values}
 use Rattle.reader.proofs.Part.{inside, part-there}
 use Rattle.acceptance.specs.Part.{partValue}

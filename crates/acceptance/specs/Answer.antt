@@ -8,11 +8,11 @@ use Rattle.questions.specs.Question.{helloAll, writeAll, writeDevice, readAll, 
 use Rattle.questions.specs.Shape.{shapeOf}
 use Rattle.questions.specs.Bytes.{answerBytes}
 use Rattle.questions.specs.declared.question.Question.{Question}
-use Rattle.reader.specs.Reading.{valuesTaken}
+use Rattle.readings.specs.Reading.{valuesTaken}
 use Rattle.reader.specs.Judge.{judgeOf}
 use Rattle.reader.specs.Read.{valuesOn}
-use Rattle.reader.specs.declared.reading.Reading.{Reading}
-use Rattle.reader.specs.declared.reading.Reading.the-variants.{Counted, Written, Values}
+use Rattle.readings.specs.declared.Reading.{Reading}
+use Rattle.readings.specs.declared.Reading.the-variants.{Counted, Written, Values}
 
 -- every number of the list is a register's value
 abbrev pub Registers : List ℕ → Type 0

@@ -14,9 +14,9 @@ use Rattle.questions.specs.Shape.{shapeOf}
 use Rattle.questions.specs.Command.{commandLine}
 use Rattle.questions.specs.declared.question.Question.{Question}
 use Rattle.questions.proofs.ByKind.{of-hello, of-write, of-read}
-use Rattle.reader.specs.Reading.{numberOf}
+use Rattle.readings.specs.Reading.{numberOf}
 use Rattle.reader.specs.Read.{ReadDone}
-use Rattle.reader.specs.declared.reading.Reading.{Reading}
+use Rattle.readings.specs.declared.Reading.{Reading}
 use Rattle.reader.proofs.Accepted.{accepted-takes}
 use Rattle.acceptance.specs.Answer.{Fitting, AnswerTo, Sendable, readingOf}
 use Rattle.acceptance.specs.Answer.Fitting.{hello, write, read}

@@ -16,11 +16,11 @@ use Rattle.questions.specs.Shape.{shapeAt, shapeOf}
 use Rattle.questions.specs.Bytes.{answerBytes}
 use Rattle.questions.specs.declared.question.Question.{Question}
 use Rattle.questions.proofs.ByKind.{of-read}
-use Rattle.reader.specs.Reading.{numberOf, valuesTaken}
+use Rattle.readings.specs.Reading.{numberOf, valuesTaken}
 use Rattle.reader.specs.Judge.{judgeOf}
 use Rattle.reader.specs.Read.{valuesOn, ReadDone}
-use Rattle.reader.specs.declared.reading.Reading.{Reading}
-use Rattle.reader.specs.declared.reading.Reading.the-variants.{Counted, Written, Values, Refused}
+use Rattle.readings.specs.declared.Reading.{Reading}
+use Rattle.readings.specs.declared.Reading.the-variants.{Counted, Written, Values, Refused}
 use Rattle.acceptance.specs.Answer.{Registers, AllValues, Fitting, AnswerTo, Sendable}
 use Rattle.acceptance.specs.Answer.Fitting.{hello, write, read}
 use Rattle.acceptance.proofs.AcceptedIsAnAnswer.{accepted-is-an-answer}

@@ -30,10 +30,10 @@ use Rattle.questions.specs.Shape.{shapeAt, shapeOf}
 use Rattle.questions.specs.Bytes.{lowHigh, onWire, answerBytes}
 use Rattle.questions.specs.declared.question.Question.{Question}
 use Rattle.questions.proofs.ByKind.{of-read}
-use Rattle.reader.specs.Reading.{valuesTaken}
+use Rattle.readings.specs.Reading.{valuesTaken}
 use Rattle.reader.specs.Judge.{judgeOf}
 use Rattle.reader.specs.Read.{valuesOn}
-use Rattle.reader.specs.declared.reading.Reading.the-variants.{Values}
+use Rattle.readings.specs.declared.Reading.the-variants.{Values}
 use Rattle.acceptance.specs.Answer.{Registers, AllValues, AnswerTo, Sendable}
 use Rattle.acceptance.specs.Answer.Fitting.{read}
 use Rattle.acceptance.proofs.Wire.{length-wire}

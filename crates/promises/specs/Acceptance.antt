@@ -8,8 +8,8 @@ use Rattle.lines.specs.Write.{atFront}
 use Rattle.questions.specs.Question.{goodQuestion}
 use Rattle.questions.specs.Shape.{shapeOf}
 use Rattle.questions.specs.declared.question.Question.{Question}
-use Rattle.reader.specs.Reading.{numberOf}
-use Rattle.reader.specs.declared.reading.Reading.{Reading}
+use Rattle.readings.specs.Reading.{numberOf}
+use Rattle.readings.specs.declared.Reading.{Reading}
 use Rattle.acceptance.specs.Answer.{AnswerTo, readingOf, handedOut}
 
 -- accepted: the reading has no row's number

@@ -4,8 +4,8 @@ use mathlib.Core.List.{List}
 use Prim.Native.Nat.{ℕ, _≤_}
 use lib.ListN.{length}
 use Rattle.remainder.specs.Turned.{weight}
-use Rattle.reader.specs.Reading.{numberOf}
-use Rattle.reader.specs.declared.reading.Reading.{Reading}
+use Rattle.readings.specs.Reading.{numberOf}
+use Rattle.readings.specs.declared.Reading.{Reading}
 
 -- one mask a word, and from one to `most` bits turned over in all
 pub record Damage (line masks : List ℕ) (most : ℕ) : Type 0 where

@@ -12,7 +12,7 @@ use Rattle.questions.specs.Bytes.{answerBytes}
 use Rattle.questions.specs.declared.question.Question.{Question}
 use Rattle.reader.specs.Judge.{judgeOf}
 use Rattle.reader.specs.Read.{valuesOn}
-use Rattle.reader.specs.declared.reading.Reading.the-variants.{Values}
+use Rattle.readings.specs.declared.Reading.the-variants.{Values}
 
 -- one mask a device: the named bits of one device's register, and nothing of the others'
 abbrev pub inDevice : (n device bits : ℕ) → List ℕ

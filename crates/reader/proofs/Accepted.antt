@@ -19,13 +19,13 @@ use Rattle.questions.specs.Question.{goodQuestion}
 use Rattle.questions.specs.Shape.{shapeOf}
 use Rattle.questions.specs.declared.question.Question as asked
 use Rattle.questions.proofs.Good.{good-values}
-use Rattle.reader.specs.Reading.{refusalNumber, numberOf, valuesTaken}
+use Rattle.readings.specs.Reading.{refusalNumber, numberOf, valuesTaken}
 use Rattle.reader.specs.Rows.{echoed, pecRight, aliveRight, checkByte, settledCount, settled}
 use Rattle.reader.specs.Judge.{unless, unlessAt, judgeBytes, judgeWords, judgeOf}
-use Rattle.reader.specs.declared.reading.Refusal.{Refusal}
-use Rattle.reader.specs.declared.reading.Refusal.the-variants.{Question, Room, Length, Character, Frame, Manchester, Echo, Pec, Alive, Check, Count}
-use Rattle.reader.specs.declared.reading.Reading.{Reading}
-use Rattle.reader.specs.declared.reading.Reading.the-variants.{Counted, Written, Values, Refused}
+use Rattle.readings.specs.declared.Refusal.{Refusal}
+use Rattle.readings.specs.declared.Refusal.the-variants.{Question, Room, Length, Character, Frame, Manchester, Echo, Pec, Alive, Check, Count}
+use Rattle.readings.specs.declared.Reading.{Reading}
+use Rattle.readings.specs.declared.Reading.the-variants.{Counted, Written, Values, Refused}
 use Rattle.reader.proofs.RowLaws.{hello-settled, write-settled, read-settled}
 use Rattle.reader.proofs.Unless.{goes-on, no-place}
 

@@ -15,9 +15,9 @@ use Rattle.questions.specs.Shape.{shapeOf}
 use Rattle.questions.specs.declared.question.Question.{Question}
 use Rattle.questions.proofs.ByKind.{of-hello, of-write, of-read}
 use Rattle.reader.specs.Rows.{valueEchoed, echoed, pecHeld, pecRight, aliveHeld, aliveRight, checkByte, settledCount, settled}
-use Rattle.reader.specs.declared.reading.Refusal.the-variants.{Count}
-use Rattle.reader.specs.declared.reading.Reading.{Reading}
-use Rattle.reader.specs.declared.reading.Reading.the-variants.{Counted, Written, Values, Refused}
+use Rattle.readings.specs.declared.Refusal.the-variants.{Count}
+use Rattle.readings.specs.declared.Reading.{Reading}
+use Rattle.readings.specs.declared.Reading.the-variants.{Counted, Written, Values, Refused}
 
 pub positive : (k : ℕ) → (k ≡ 0 → ⊥) → 1 ≤ k
 positive k h = omega arith

@@ -5,9 +5,9 @@ use Prim.Native.Nat.{ℕ}
 use Rattle.lines.specs.declared.read.Place.{Place}
 use Rattle.lines.specs.declared.read.Place.the-variants.{At, Nowhere}
 use Rattle.reader.specs.Judge.{unless, unlessAt}
-use Rattle.reader.specs.declared.reading.Refusal.{Refusal}
-use Rattle.reader.specs.declared.reading.Reading.{Reading}
-use Rattle.reader.specs.declared.reading.Reading.the-variants.{Refused}
+use Rattle.readings.specs.declared.Refusal.{Refusal}
+use Rattle.readings.specs.declared.Reading.{Reading}
+use Rattle.readings.specs.declared.Reading.the-variants.{Refused}
 
 pub goes-on : (t : Bool) (why : Refusal) (next : Reading) → t ≡ true → unless t why next ≡ next
 goes-on t why next e = ap (λ (t : Bool). unless t why next) e

@@ -12,10 +12,10 @@ use Rattle.questions.specs.Question.{goodQuestion}
 use Rattle.questions.specs.Shape.{shapeOf}
 use Rattle.questions.specs.declared.question.Question as asked
 use Rattle.reader.specs.Rows.{echoed, pecRight, aliveRight, checkByte, settled}
-use Rattle.reader.specs.declared.reading.Refusal.{Refusal}
-use Rattle.reader.specs.declared.reading.Refusal.the-variants.{Question, Room, Length, Character, Frame, Manchester, Echo, Pec, Alive, Check}
-use Rattle.reader.specs.declared.reading.Reading.{Reading}
-use Rattle.reader.specs.declared.reading.Reading.the-variants.{Refused}
+use Rattle.readings.specs.declared.Refusal.{Refusal}
+use Rattle.readings.specs.declared.Refusal.the-variants.{Question, Room, Length, Character, Frame, Manchester, Echo, Pec, Alive, Check}
+use Rattle.readings.specs.declared.Reading.{Reading}
+use Rattle.readings.specs.declared.Reading.the-variants.{Refused}
 
 -- turned away unless the row's test holds
 abbrev pub unless : Bool → Refusal → Reading → Reading

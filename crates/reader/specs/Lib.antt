@@ -1,4 +1,3 @@
-pub mod Reading
 pub mod Rows
 pub mod Judge
 pub mod Read

@@ -11,9 +11,9 @@ use Rattle.lines.specs.Write.{atFront}
 use Rattle.questions.specs.Question.{readAll, covers}
 use Rattle.questions.specs.Shape.{shapeOf}
 use Rattle.questions.specs.declared.question.Question.{Question}
-use Rattle.reader.specs.Reading.{valuesTaken}
+use Rattle.readings.specs.Reading.{valuesTaken}
 use Rattle.reader.specs.Judge.{judgeOf}
-use Rattle.reader.specs.declared.reading.Reading.{Reading}
+use Rattle.readings.specs.declared.Reading.{Reading}
 
 -- of m values on the line, highest address first, the one that stands k devices from the lowest: low byte, high byte
 unfoldable pub valueAt : List ℕ → (m k : ℕ) → ℕ

@@ -7,9 +7,9 @@ use Rattle.lines.specs.Line.{byteAt, pecOver}
 use Rattle.questions.specs.Question.{byForm}
 use Rattle.questions.specs.Shape.{shapeOf}
 use Rattle.questions.specs.declared.question.Question as asked
-use Rattle.reader.specs.declared.reading.Refusal.the-variants as why
-use Rattle.reader.specs.declared.reading.Reading.{Reading}
-use Rattle.reader.specs.declared.reading.Reading.the-variants.{Counted, Written, Values, Refused}
+use Rattle.readings.specs.declared.Refusal.the-variants as why
+use Rattle.readings.specs.declared.Reading.{Reading}
+use Rattle.readings.specs.declared.Reading.the-variants.{Counted, Written, Values, Refused}
 
 -- a write's value is what was asked
 abbrev pub valueEchoed : asked.Question → List ℕ → Bool

@@ -1,6 +1,4 @@
 // The rows of "Turned away", each over the whole line before the next.
-use crate::reading::Reading;
-use crate::reading::Refusal;
 use lines::read::Place;
 use lines::read::byte_at;
 use lines::read::first_no_character;
@@ -12,6 +10,8 @@ use questions::question::Question;
 use questions::question::WRITEDEVICE;
 use questions::question::is_good;
 use questions::question::shape_of;
+use readings::Reading;
+use readings::Refusal;
 use std::num::wrapping_add_u8;
 ghost use mathlib.Core.Path.{_≡_};
 ghost use Rattle.reader.specs.Rows.{echoed, valueEchoed, pecRight, aliveRight, checkByte, settled, settledCount};

@@ -1,12 +1,12 @@
 // The two calls of the reader.
 use crate::judge::judge;
-use crate::reading::Reading;
-use crate::reading::values_taken;
 use lines::read::byte_at;
 use questions::question::Question;
 use questions::question::READALL;
 use questions::question::is_covered;
 use questions::question::shape_of;
+use readings::Reading;
+use readings::values_taken;
 ghost use mathlib.Core.Path.{_≡_};
 ghost use Prim.Native.Nat.{_+_, _*_, _≤_, _<_};
 ghost use lib.ListN.{length};

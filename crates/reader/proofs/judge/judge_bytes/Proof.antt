@@ -3,8 +3,8 @@ use mathlib.Core.Path.{_≡_, sym, ap, _∙_}
 use borrow.Author.Tests.{eq-eqb, ne-eqb, not-true, not-false}
 use Rattle.reader.specs.Rows.{checkByte}
 use Rattle.reader.specs.Judge.{judgeBytes}
-use Rattle.reader.specs.declared.reading.Refusal.the-variants.{Check}
-use Rattle.reader.specs.declared.reading.Reading.the-variants.{Refused}
+use Rattle.readings.specs.declared.Refusal.the-variants.{Check}
+use Rattle.readings.specs.declared.Reading.the-variants.{Refused}
 use Rattle.reader.proofs.Unless.{goes-on, turns-away}
 use borrow.Author.Needs.{needs}
 use Rattle.reader.proofs.judge.judge_bytes.Statement.{statement}

@@ -1,7 +1,7 @@
 -- `settle` meets its contract, form by form.
 use mathlib.Core.Path.{_≡_, sym, ap, ap₂, _∙_}
 use Rattle.reader.specs.Rows.{settledCount}
-use Rattle.reader.specs.declared.reading.Reading.the-variants.{Values}
+use Rattle.readings.specs.declared.Reading.the-variants.{Values}
 use Rattle.questions.specs.declared.question.Shape.{Shape}
 use Rattle.reader.proofs.RowLaws.{positive, hello-settled, write-settled, read-settled}
 use borrow.Author.Needs.{needs}

@@ -1,7 +1,7 @@
 -- `carried_by` meets its contract: the room asked for is the room there is.
 use mathlib.Core.Path.{ap, _∙_}
 use Rattle.questions.specs.declared.question.Shape.{Shape}
-use Rattle.reader.specs.Reading.{valuesTaken}
+use Rattle.readings.specs.Reading.{valuesTaken}
 use Rattle.reader.specs.Judge.{judgeOf}
 use borrow.Author.Needs.{needs}
 use Rattle.reader.proofs.read.carried_by.Statement.{statement}

@@ -1,6 +1,6 @@
 // What the reader says, in the words of document 01's table "Turned away".
 ghost use mathlib.Core.Path.{_≡_};
-ghost use Rattle.reader.specs.Reading.{refusalNumber, refusalPlace, refusalByte, numberOf, placeOf, byteOf, valuesTaken};
+ghost use Rattle.readings.specs.Reading.{refusalNumber, refusalPlace, refusalByte, numberOf, placeOf, byteOf, valuesTaken};
 
 // Rows 1 to 11, in their order; a place or a byte where the row has one.
 pub enum Refusal {

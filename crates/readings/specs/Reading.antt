@@ -1,9 +1,9 @@
 -- What the reader says, and document 01's number, place and byte for each case ("Turned away").
 use Prim.Native.Nat.{ℕ}
-use Rattle.reader.specs.declared.reading.Refusal.{Refusal}
-use Rattle.reader.specs.declared.reading.Refusal.the-variants.{Question, Room, Length, Character, Frame, Manchester, Echo, Pec, Alive, Check, Count}
-use Rattle.reader.specs.declared.reading.Reading.{Reading}
-use Rattle.reader.specs.declared.reading.Reading.the-variants.{Counted, Written, Values, Refused}
+use Rattle.readings.specs.declared.Refusal.{Refusal}
+use Rattle.readings.specs.declared.Refusal.the-variants.{Question, Room, Length, Character, Frame, Manchester, Echo, Pec, Alive, Check, Count}
+use Rattle.readings.specs.declared.Reading.{Reading}
+use Rattle.readings.specs.declared.Reading.the-variants.{Counted, Written, Values, Refused}
 
 -- the row's number
 abbrev pub refusalNumber : Refusal → ℕ
