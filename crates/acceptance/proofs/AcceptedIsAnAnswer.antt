@@ -24,7 +24,7 @@ use Rattle.questions.specs.Shape.{shapeOf}
 use Rattle.questions.specs.Bytes.{lowHigh, onWire, sealed, writeCovered, readCovered, answerBytes}
 use Rattle.questions.specs.declared.question.Question.{Question}
 use Rattle.questions.proofs.ByKind.{of-hello, of-write, of-read}
-use Rattle.questions.proofs.Good.{good-alive, hello-shape, write-shape, read-shape}
+use Rattle.questions.proofs.Good.{good-kind, good-alive, hello-shape, write-shape, read-shape}
 use Rattle.reader.specs.Rows.{valueEchoed, echoed, pecHeld, pecRight, aliveHeld, aliveRight, checkByte, settledCount, settled}
 use Rattle.readings.specs.Reading.{numberOf, valuesTaken}
 use Rattle.reader.specs.Judge.{judgeOf}
@@ -272,7 +272,7 @@ module _ (q : Question) (line : List ℕ) (room : ℕ) (accepted : numberOf (jud
       record {
         values = valuesOn line m;
         answer = record {
-          fitting = read lo (record { number = length-tabulated (valueAt line m) m 0; registers = register-values line m });
+          fitting = read lo (good-kind q (taken .good)) (record { number = length-tabulated (valueAt line m) m 0; registers = register-values line m });
           written = answer-line (valuesOn line m) (2 * m + 4 + q .alive) words (read-bytes q line room taken lo);
         };
         reading = reading ∙ sym (of-read (q .kind) _ _ _ lo);

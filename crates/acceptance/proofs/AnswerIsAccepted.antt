@@ -275,4 +275,4 @@ module _ (q : Question) (good : goodQuestion q ≡ true) (s : Sendable q) (room 
       by-form (hello e c) =
           subst (λ (v : List ℕ). ReadsAs v (lineOf (answerBytes q v 0))) (sym (c .only)) (hello-reads-as e (c .count) (c .least) (c .most))
       by-form (write lo hi none) = subst (λ (v : List ℕ). ReadsAs v (lineOf (answerBytes q v 0))) (sym none) (write-reads-as lo hi)
-      by-form (read lo all) = read-reads-as lo values all
+      by-form (read lo hi all) = read-reads-as lo values all

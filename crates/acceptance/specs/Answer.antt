@@ -4,7 +4,7 @@ use mathlib.Core.List.{List, [], _∷_}
 use Prim.Native.Nat.{ℕ, _≤_, _<_}
 use lib.ListN.{length, getD}
 use Rattle.lines.specs.Line.{lineOf}
-use Rattle.questions.specs.Question.{helloAll, writeAll, writeDevice, readAll, byForm}
+use Rattle.questions.specs.Question.{helloAll, writeAll, writeDevice, readAll, readDevice, byForm}
 use Rattle.questions.specs.Shape.{shapeOf}
 use Rattle.questions.specs.Bytes.{answerBytes}
 use Rattle.questions.specs.declared.question.Question.{Question}
@@ -34,7 +34,7 @@ pub record AllValues (q : Question) (values : List ℕ) : Type 0 where
 pub data Fitting (q : Question) (values : List ℕ) : Type 0 where
   hello : q .kind ≡ helloAll → OneCount values → Fitting q values
   write : writeAll ≤ q .kind → q .kind ≤ writeDevice → values ≡ [] → Fitting q values
-  read : readAll ≤ q .kind → AllValues q values → Fitting q values
+  read : readAll ≤ q .kind → q .kind ≤ readDevice → AllValues q values → Fitting q values
 
 -- the line is the line of the right answer that carries these values, with check byte 00h
 pub record AnswerTo (q : Question) (values line : List ℕ) : Type 0 where
@@ -55,7 +55,8 @@ pub record Answered (q : Question) (line : List ℕ) (room : ℕ) : Type 0 where
   pub reading : judgeOf q line room ≡ readingOf q values
   pub handed : valuesOn line (valuesTaken (judgeOf q line room)) ≡ handedOut q values
 
--- the fields that a question sends are numbers of their types
+-- The fields that a question sends are numbers of their types. Every question that a program can make has this, since `reg` is a u8 and
+-- `value` a u16.
 pub record Sendable (q : Question) : Type 0 where
   pub reg : q .reg < 256
   pub value : q .value < 65536

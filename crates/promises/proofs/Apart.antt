@@ -39,14 +39,14 @@ varied-bytes values r = bytes-append (onWire values) (0 ∷ []) (wire-bytes valu
 
 module _ (q : Question) (is : q .kind ≡ readAll) (good : goodQuestion q ≡ true) (s : Sendable q) where
   -- the start state that the first two bytes leave, the same for every answer
-  pub start : ℕ
+  unfoldable pub start : ℕ
   start = byteStep (byteStep 0 (shapeOf q .first)) (q .reg)
 
-  answer : (values : List ℕ) → answerBytes q values 0 ≡ sealed q (shapeOf q .acting) (readCovered q values 0)
+  pub answer : (values : List ℕ) → answerBytes q values 0 ≡ sealed q (shapeOf q .acting) (readCovered q values 0)
   unfolding answerBytes
   answer values = of-read (q .kind) _ _ _ (omega arith)
 
-  answer-are-bytes : (values : List ℕ) → Registers values → Bytes (sealed q (shapeOf q .acting) (readCovered q values 0))
+  pub answer-are-bytes : (values : List ℕ) → Registers values → Bytes (sealed q (shapeOf q .acting) (readCovered q values 0))
   answer-are-bytes values r =
       sealed-bytes q (shapeOf q .acting) (good-alive q good) (readCovered q values 0)
       (bytes-cons (shapeOf q .first) (q .reg ∷ varied values) (good-first q good) (bytes-cons (q .reg) (varied values) (s .reg) (varied-bytes values r)))

@@ -29,7 +29,7 @@ use Rattle.promises.specs.Acceptance.{Accepted, Due, With}
 accepted-reading : (q : Question) (values : List ℕ) → Fitting q values → numberOf (readingOf q values) ≡ 0
 accepted-reading q values (hello e c) = ap numberOf (of-hello (q .kind) _ _ _ e)
 accepted-reading q values (write lo hi e) = ap numberOf (of-write (q .kind) _ _ _ lo hi)
-accepted-reading q values (read lo all) = ap numberOf (of-read (q .kind) _ _ _ lo)
+accepted-reading q values (read lo hi all) = ap numberOf (of-read (q .kind) _ _ _ lo)
 
 module _ (q : Question) (line before after : List ℕ) (r : Reading) (done : ReadDone q line before after r) where
   -- What is accepted was due, and is handed out with the values of that answer.

@@ -1,6 +1,6 @@
 -- Demand 3. A READALL answer with check byte 00h is accepted undamaged, and hands out each device's register once, in address order. With
 -- one to five line bits turned over for 1 to 14 devices, or one to three for 15 to 32, it is turned away, and the output stays as it was.
--- For every good READALL question with room: alive on and off, any seed, any register, any values. Said of every answer that meets `read`'s
+-- For every good READALL question (to be accepted it needs room): alive on and off, any seed, any register, any values. Said of every answer that meets `read`'s
 -- contract, and so of `read`.
 use mathlib.Core.Path.{_≡_, refl, sym, ap, _∙_}
 use mathlib.Core.Bool.{true}
@@ -16,31 +16,25 @@ use Rattle.questions.specs.Shape.{shapeAt, shapeOf}
 use Rattle.questions.specs.Bytes.{answerBytes}
 use Rattle.questions.specs.declared.question.Question.{Question}
 use Rattle.questions.proofs.ByKind.{of-read}
-use Rattle.readings.specs.Reading.{numberOf, valuesTaken}
+use Rattle.readings.specs.Reading.{numberOf}
 use Rattle.reader.specs.Judge.{judgeOf}
-use Rattle.reader.specs.Read.{valuesOn, ReadDone}
+use Rattle.reader.specs.Read.{ReadDone}
 use Rattle.readings.specs.declared.Reading.{Reading}
-use Rattle.readings.specs.declared.Reading.the-variants.{Counted, Written, Values, Refused}
+use Rattle.readings.specs.declared.Reading.the-variants.{Values}
 use Rattle.acceptance.specs.Answer.{Registers, AllValues, Fitting, AnswerTo, Sendable}
 use Rattle.acceptance.specs.Answer.Fitting.{hello, write, read}
 use Rattle.acceptance.proofs.AcceptedIsAnAnswer.{accepted-is-an-answer}
 use Rattle.acceptance.proofs.AnswerIsAccepted.{answer-is-accepted}
 use Rattle.promises.specs.Damage.{Damage, TurnedAway}
+use Rattle.promises.proofs.RefusedWritesNothing.{refused-read}
 use Rattle.promises.proofs.Apart.{four-at-least, six-at-least}
-
--- a line turned away hands nothing out
-nothing-out : (r : Reading) → TurnedAway r → valuesTaken r ≡ 0
-nothing-out (Counted n) h = refl
-nothing-out Written h = refl
-nothing-out (Values m) h = absurd (omega arith)
-nothing-out (Refused why) h = refl
 
 module _ (q : Question) (is : q .kind ≡ readAll) (good : goodQuestion q ≡ true) (s : Sendable q) where
   wanted : shapeOf q .values ≡ q .n
   unfolding shapeOf
   wanted = ap (λ (k : ℕ). shapeAt k q .values) is
 
-  module _ (values : List ℕ) (number : length values ≡ q .n) (registers : Registers values) (before : List ℕ) (room : q .n ≤ length before) where
+  module _ (values : List ℕ) (number : length values ≡ q .n) (registers : Registers values) (before : List ℕ) where
     -- the right answer with check byte 00h
     abbrev line : List ℕ
     line = lineOf (answerBytes q values 0)
@@ -49,9 +43,9 @@ module _ (q : Question) (is : q .kind ≡ readAll) (good : goodQuestion q ≡ tr
     fits = record { number = number ∙ sym wanted; registers = registers }
 
     -- Undamaged, it is accepted, and each device's register stands once at the front of the output, in address order.
-    pub undamaged : (after : List ℕ) (r : Reading) → ReadDone q line before after r → (r ≡ Values (q .n)) × (after ≡ atFront values before)
-    undamaged after r done =
-        let sent : AnswerTo q values line = record { fitting = read (omega arith) fits; written = refl } in
+    pub undamaged : q .n ≤ length before → (after : List ℕ) (r : Reading) → ReadDone q line before after r → (r ≡ Values (q .n)) × (after ≡ atFront values before)
+    undamaged room after r done =
+        let sent : AnswerTo q values line = record { fitting = read (omega arith) (omega arith) fits; written = refl } in
         let answered = answer-is-accepted q good s (length before) (omega (arith, wanted)) values line sent in (
           done .says ∙ answered .0 ∙ of-read (q .kind) _ _ _ (omega arith) ∙ ap Values wanted,
           done .leaves ∙ ap (λ (l : List ℕ). atFront l before) (answered .1 ∙ of-read (q .kind) _ _ _ (omega arith)),
@@ -65,7 +59,7 @@ module _ (q : Question) (is : q .kind ≡ readAll) (good : goodQuestion q ≡ tr
         by-fitting : (other : List ℕ) → Fitting q other → turned line masks ≡ lineOf (answerBytes q other 0) → ⊥
         by-fitting other (hello e c) w = omega arith
         by-fitting other (write lo hi e) w = omega arith
-        by-fitting other (read lo all) w = never other all w
+        by-fitting other (read lo hi all) w = never other all w
 
         by-number : (k : ℕ) → numberOf (judgeOf q (turned line masks) (length before)) ≡ k → TurnedAway (judgeOf q (turned line masks) (length before))
         by-number zero e =
@@ -75,10 +69,9 @@ module _ (q : Question) (is : q .kind ≡ readAll) (good : goodQuestion q ≡ tr
 
     refused : (masks after : List ℕ) (r : Reading) → TurnedAway (judgeOf q (turned line masks) (length before))
         → ReadDone q (turned line masks) before after r → TurnedAway r × (after ≡ before)
-    refused masks after r away done = (
-      omega (arith, ap numberOf (done .says)),
-      done .leaves ∙ ap (λ (m : ℕ). atFront (valuesOn (turned line masks) m) before) (nothing-out (judgeOf q (turned line masks) (length before)) away),
-    )
+    refused masks after r away done =
+        let turned-away : TurnedAway r = omega (arith, ap numberOf (done .says)) in
+        (turned-away, refused-read q (turned line masks) before after r done turned-away)
 
     -- With 1 to 14 devices and one to five bits turned over, it is turned away.
     pub five-bits : q .n ≤ 14 → (masks : List ℕ) → Damage line masks 5 → (after : List ℕ) (r : Reading) → ReadDone q (turned line masks) before after r

@@ -1,3 +1,4 @@
+pub mod RefusedWritesNothing
 pub mod Apart
 pub mod Demand2
 pub mod Demand3

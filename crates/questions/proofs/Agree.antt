@@ -6,6 +6,7 @@ use Rattle.ground.specs.Agree.{Settled, SettledIn}
 use Rattle.questions.proofs.question.is_good.Reads as is-good
 use Rattle.questions.proofs.question.is_covered.Reads as is-covered
 use Rattle.questions.proofs.question.shape_of.Reads as shape-of
+use Rattle.questions.proofs.command.issued_number.Reads as issued-number
 use Rattle.questions.proofs.command.write_command.Reads as write-command
 
 pub is-good-settled : Settled is-good.Post
@@ -16,6 +17,9 @@ is-covered-settled l given r r′ left left′ p q = p ∙ sym q
 
 pub shape-of-settled : Settled shape-of.Post
 shape-of-settled l given r r′ left left′ p q = p ∙ sym q
+
+pub issued-number-settled : Settled issued-number.Post
+issued-number-settled l given r r′ left left′ p q = p ∙ sym q
 
 pub write-command-settled : Settled write-command.Post
 write-command-settled l given r r′ left left′ p q = p .says ∙ sym (q .says)

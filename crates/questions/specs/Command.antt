@@ -37,7 +37,7 @@ pub record CommandPut (q : Question) (before after : List ℕ) (r : Issued) : Ty
   pub says : r ≡ issuedOf q before
   pub leaves : after ≡ commandOut q before
 
--- this paper's number for each answer: 0 for none, 1 QUESTION, 2 ROOM
+-- document 01's number for each answer: 0 where the command was written, 1 QUESTION, 2 ROOM
 abbrev pub issuedNumber : Issued → ℕ
 issuedNumber (issued.Words n) = 0
 issuedNumber issued.Question = 1

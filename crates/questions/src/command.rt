@@ -14,7 +14,7 @@ ghost use Prim.Native.Nat.{_≤_};
 ghost use Rattle.lines.specs.Write.{LinePut};
 ghost use Rattle.questions.specs.Question.{goodQuestion};
 ghost use Rattle.questions.specs.Bytes.{commandBytes, sealed, lowHigh, fillPairs};
-ghost use Rattle.questions.specs.Command.{CommandPut, issuedAs, blank};
+ghost use Rattle.questions.specs.Command.{CommandPut, issuedNumber, issuedAs, blank};
 
 // How many words the command has, or which row turned the call away.
 pub enum Issued {
@@ -31,6 +31,17 @@ pub fn write_command(q: Question, out: &mut [u16]) -> Issued
         return Issued::Question;
     }
     as_issued(put_command(q, out))
+}
+
+// Document 01's number of an answer: 0 where the command was written.
+pub fn issued_number(issued: Issued) -> u8
+    ensures { λ r. ⌜ r ≡ issuedNumber issued ⌝ }
+{
+    match issued {
+        Issued::Words(_) => 0,
+        Issued::Question => 1,
+        Issued::Room => 2,
+    }
 }
 
 fn as_issued(put: Put) -> Issued

@@ -66,6 +66,13 @@ byteOf Written = 0
 byteOf (Values m) = 0
 byteOf (Refused why) = refusalByte why
 
+-- HELLOALL's reading is the count on the line
+abbrev pub countOf : Reading → ℕ
+countOf (Counted n) = n
+countOf Written = 0
+countOf (Values m) = 0
+countOf (Refused why) = 0
+
 -- how many values a reading hands out
 abbrev pub valuesTaken : Reading → ℕ
 valuesTaken (Counted n) = 0

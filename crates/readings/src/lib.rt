@@ -1,6 +1,6 @@
 // What the reader says, in the words of document 01's table "Turned away".
 ghost use mathlib.Core.Path.{_≡_};
-ghost use Rattle.readings.specs.Reading.{refusalNumber, refusalPlace, refusalByte, numberOf, placeOf, byteOf, valuesTaken};
+ghost use Rattle.readings.specs.Reading.{refusalNumber, refusalPlace, refusalByte, numberOf, placeOf, byteOf, countOf, valuesTaken};
 
 // Rows 1 to 11, in their order; a place or a byte where the row has one.
 pub enum Refusal {
@@ -26,7 +26,7 @@ pub enum Reading {
 }
 
 // Document 01's number of a row.
-pub fn refusal_number(why: Refusal) -> u8
+fn refusal_number(why: Refusal) -> u8
     ensures { λ r. ⌜ r ≡ refusalNumber why ⌝ }
 {
     match why {
@@ -45,7 +45,7 @@ pub fn refusal_number(why: Refusal) -> u8
 }
 
 // The place of a row that has one, else 0.
-pub fn refusal_place(why: Refusal) -> usize
+fn refusal_place(why: Refusal) -> usize
     ensures { λ r. ⌜ r ≡ refusalPlace why ⌝ }
 {
     match why {
@@ -64,7 +64,7 @@ pub fn refusal_place(why: Refusal) -> usize
 }
 
 // The byte of a row that has one, else 0.
-pub fn refusal_byte(why: Refusal) -> u8
+fn refusal_byte(why: Refusal) -> u8
     ensures { λ r. ⌜ r ≡ refusalByte why ⌝ }
 {
     match why {
@@ -115,6 +115,18 @@ pub fn byte_of(reading: Reading) -> u8
         Reading::Written => 0,
         Reading::Values(_) => 0,
         Reading::Refused(why) => refusal_byte(why),
+    }
+}
+
+// HELLOALL's count, else 0.
+pub fn count_of(reading: Reading) -> u8
+    ensures { λ r. ⌜ r ≡ countOf reading ⌝ }
+{
+    match reading {
+        Reading::Counted(n) => n,
+        Reading::Written => 0,
+        Reading::Values(_) => 0,
+        Reading::Refused(_) => 0,
     }
 }
 
