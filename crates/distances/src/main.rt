@@ -1,5 +1,5 @@
-// Prints, for each device count, the fewest line bits that turn one acceptable READALL answer into another (document 01, "Distance, and
-// where it ends"), and how many such damages there are. The gate compares what it prints with `stdout`.
+// Prints how many damages of a READALL answer pass unfound (document 01, "Distance, and where it ends"): of six line bits for each device
+// count up to 14, and of four from 15 on. That no fewer bits pass is proved in the promises. The gate compares what it prints with `stdout`.
 ghost use mathlib.Core.Path.{_≡_};
 ghost use Prim.Native.Nat.{_≤_, _*_};
 ghost use lib.ListN.{length};

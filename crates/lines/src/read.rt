@@ -83,7 +83,7 @@ fn word_at(line: &[u16], i: usize) -> u16
     if i < line.len() { line[i] } else { 0 }
 }
 
-// Byte i of a line, 0 past the end.
+// Byte i of a line; a word past the end reads as 0.
 pub fn byte_at(line: &[u16], i: usize) -> u8
     ensures { λ r. ⌜ r ≡ byteAt (now (line .entry)) i ⌝ }
 {

@@ -12,6 +12,7 @@ use Rattle.pec.specs.Pec.{byteStep}
 unfoldable pub apartBy : (start : ℕ) → List ℕ → List ℕ → ℕ
 apartBy start xs ys = distance xs ys + ones (bitXor (run byteStep start xs) (run byteStep start ys))
 
--- Up to this many bytes, two lists are three bits apart: the values and the check byte of 14 devices (2 * 14 + 1).
+-- Up to this many bytes, two different lists, with their remainders, are at least three bits apart: the values and the check byte of 14
+-- devices (2 * 14 + 1).
 abbrev pub fewBytes : ℕ
 fewBytes = 29

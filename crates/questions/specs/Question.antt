@@ -22,7 +22,7 @@ abbrev pub readDevice : ℕ
 readDevice = 4
 
 module _ {ℓ} {A : Type ℓ} where
-  -- one entry for each kind, in the order of their numbers
+  -- one entry for each kind, in the order of their numbers; a kind above 4, which no good question has, takes the last
   abbrev pub byKind : ℕ → (hello writesAll writesOne readsAll readsOne : A) → A
   byKind zero h wa wo ra ro = h
   byKind (suc zero) h wa wo ra ro = wa
@@ -45,7 +45,7 @@ goodChain q =
 unfoldable pub goodQuestion : Question → Bool
 goodQuestion q = leb (q .kind) 4 && leb (q .alive) 1 && (eqb (q .kind) helloAll || goodChain q)
 
--- the devices that a question is put to
+-- the devices whose register a good question writes or reads
 abbrev pub coversAt : (kind : ℕ) → Question → ℕ → Bool
 coversAt kind q a = byKind kind false (ltb a (q .n)) (eqb a (q .device)) (ltb a (q .n)) (eqb a (q .device))
 

@@ -4,7 +4,7 @@ use Rattle.questions.specs.Question.{byKind}
 use Rattle.questions.specs.declared.question.Question.{Question}
 use Rattle.questions.specs.declared.question.Shape.{Shape}
 
--- The command byte; how many devices act, each adding one to the alive byte; how many values come back; how many bytes of the answer
+-- The command byte; how many devices add one to the alive byte (HELLOALL has none); how many values come back; how many bytes of the answer
 -- stand before the PEC (of HELLOALL, which has none, all of them); the length of command and answer in words.
 abbrev pub shaped : (first acting values covered words : ℕ) → Shape
 shaped first acting values covered words =

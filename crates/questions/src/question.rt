@@ -24,7 +24,7 @@ pub struct Question {
     pub seed: u8,
 }
 
-// What a kind settles of command and answer: the command byte, how many devices act, how many values the answer carries, how many
+// What a kind settles of command and answer: the command byte, what is added to the alive byte, how many values the answer carries, how many
 // bytes of the answer stand before its PEC, and how many words command and answer have.
 pub struct Shape {
     pub first: u16,
@@ -71,7 +71,7 @@ fn is_good_chain(q: Question) -> bool
     true
 }
 
-// Whether the question is put to this device.
+// Whether a good question writes or reads a register of this device.
 pub fn is_covered(q: Question, device: u8) -> bool
     ensures { λ r. ⌜ r ≡ covers q device ⌝ }
 {

@@ -1,5 +1,6 @@
 // Prints the worked numbers of document 01, as the proved crates work them out; the gate compares what it prints with `stdout`.
 mod show;
+mod wire;
 
 ghost use mathlib.Core.Path.{_≡_};
 ghost use lib.ListN.{length};
@@ -120,4 +121,8 @@ fn main() {
     text(b"\n");
     nibbles();
     whole_lines();
+    wire::commands();
+    wire::answers();
+    wire::longest();
+    wire::fifteen();
 }

@@ -1,5 +1,6 @@
 // What the program prints: bytes and words in hexadecimal, places in decimal.
 use lines::read::Place;
+use lines::read::byte_at;
 
 pub fn text(s: &[u8]) {
     io::write_all(libc::STDOUT_FILENO, s);
@@ -13,6 +14,10 @@ pub fn word(w: u16) {
     io::print_hex(libc::STDOUT_FILENO, w as u64, 3);
 }
 
+pub fn number(n: usize) {
+    io::print_decimal(libc::STDOUT_FILENO, n as u64);
+}
+
 pub fn yes_or_no(yes: bool) {
     if yes {
         text(b"yes");
@@ -24,7 +29,7 @@ pub fn yes_or_no(yes: bool) {
 pub fn place(p: Place) {
     match p {
         Place::At(i) => {
-            io::print_decimal(libc::STDOUT_FILENO, i as u64);
+            number(i);
         }
         Place::Nowhere => {
             text(b"none");
@@ -54,6 +59,15 @@ pub fn words_of(words: &[u16]) {
     let mut i = 0;
     while i < words.len() {
         next_word(words[i]);
+        i += 1;
+    }
+}
+
+// The bytes that stand on a line of so many words.
+pub fn bytes_on(line: &[u16], words: usize) {
+    let mut i = 1;
+    while i < words / 2 {
+        next_byte(byte_at(line, i - 1));
         i += 1;
     }
 }
