@@ -1,5 +1,6 @@
 // Prints the worked numbers of document 01, as the proved crates work them out; the gate compares what it prints with `stdout`.
 mod show;
+mod volts;
 mod wire;
 
 ghost use mathlib.Core.Path.{_≡_};
@@ -125,4 +126,6 @@ fn main() {
     wire::answers();
     wire::longest();
     wire::fifteen();
+    volts::worked();
+    volts::sweeps();
 }

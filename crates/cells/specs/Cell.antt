@@ -1,0 +1,43 @@
+-- One cell (document 01, "Cells"): CHANNEL comes first, then "not measured", then LOW BITS.
+use mathlib.Core.Bool.{Bool, cond, _&&_}
+use Prim.Native.Nat.{ℕ, zero, suc, _-_, _/_, _%_, _^_}
+use mathlib.Core.List.{List, [], _∷_}
+use lib.ListN.{getD}
+use lib.Dec.{eqb, leb}
+use Rattle.cells.specs.Voltage.{voltageOf}
+use Rattle.cells.specs.declared.Range.{Range}
+use Rattle.cells.specs.declared.Cell.{Cell}
+use Rattle.cells.specs.declared.Cell.the-variants.{Measured, NotMeasured, Refused}
+use Rattle.cells.specs.declared.CellRefusal.{CellRefusal}
+use Rattle.cells.specs.declared.CellRefusal.the-variants.{Channel, LowBits}
+
+-- mask bit c-1 stands for cell c
+abbrev pub enabled : (mask c : ℕ) → Bool
+enabled mask c = eqb (mask / 2 ^ (c - 1) % 2) 1
+
+-- The measurement is the register divided by 4; either low bit set is LOW BITS.
+unfoldable pub cellOf : Range → (mask c register : ℕ) → Cell
+cellOf range mask c register =
+    cond (leb 1 c && leb c 12)
+    (cond (enabled mask c)
+    (cond (eqb (register % 4) 0) (Measured (voltageOf range (register / 4))) (Refused LowBits))
+    NotMeasured)
+    (Refused Channel)
+
+-- The cells from c on, n of them, each by its own register: the first of the twelve is cell 1's.
+abbrev pub cellsFrom : Range → (mask : ℕ) → List ℕ → (n c : ℕ) → List Cell
+cellsFrom range mask registers zero c = []
+cellsFrom range mask registers (suc n) c = cellOf range mask c (getD registers (c - 1) 0) ∷ cellsFrom range mask registers n (suc c)
+
+unfoldable pub cellsOf : Range → (mask : ℕ) → List ℕ → List Cell
+cellsOf range mask registers = cellsFrom range mask registers 12 1
+
+-- The paper's numbers ("Turned away"), 0 where nothing is turned away.
+abbrev pub refusalNumber : CellRefusal → ℕ
+refusalNumber Channel = 12
+refusalNumber LowBits = 13
+
+abbrev pub numberOf : Cell → ℕ
+numberOf (Measured v) = 0
+numberOf NotMeasured = 0
+numberOf (Refused why) = refusalNumber why
