@@ -11,7 +11,10 @@ use lib.IntN.{ℤ, pos, negsuc, natAbs}
 use lib.Ieee.{Float, fin, binary32, round, fits}
 use lib.Ieee.Fits.{round-fits}
 use lib.Ieee.Exact.{HasValue, round-exact}
-use Rattle.cells.specs.Voltage.{voltsOf}
+use Rattle.cells.specs.Voltage.{stepsOf, voltsOf, voltageOf}
+use Rattle.cells.specs.declared.Range.{Range}
+use Rattle.cells.specs.declared.Voltage.{Voltage}
+use Rattle.cells.proofs.Scaled.{few-steps}
 use Rattle.cells.proofs.Determined.{determined}
 
 -- below 0 V
@@ -41,3 +44,7 @@ zero-is-plus = refl
 
 pub volts-determined : (d : ℤ) → natAbs d < 16384 → (x : Float) → T (fits binary32 x) → HasValue x (negative d) (natAbs d * 5) 16384 → x ≡ voltsOf d
 volts-determined d h x p v = determined binary32 x (voltsOf d) (negative d) (natAbs d * 5) 16384 (zero-lt-suc 16383) p (volts-fit d) v (volts-exact d h)
+
+-- of every measurement, in either range
+pub code-exact : (range : Range) (m : ℕ) → m < 16384 → HasValue (voltageOf range m .volts) (negative (stepsOf range m)) (natAbs (stepsOf range m) * 5) 16384
+code-exact range m h = volts-exact (stepsOf range m) (few-steps range m h)

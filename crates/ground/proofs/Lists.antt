@@ -1,11 +1,11 @@
 -- Laws of lists that the library lacks.
 use mathlib.Core.Path.{_≡_, sym, ap, ap₂, _∙_}
-use mathlib.Core.List.{List, [], _∷_, _++_, append-assoc}
+use mathlib.Core.List.{List, [], _∷_, _++_, append-assoc, append-nil}
 use Prim.Native.Nat.{ℕ, zero, suc, _+_, _≤_, _<_}
 use native.Mathlib.Nat.{add-zero, add-suc, suc-add, zero-add}
 use native.Mathlib.Numerals.{add-one}
 use native.Mathlib.Omega.{arith}
-use lib.ListN.{length, getD, take, drop, set}
+use lib.ListN.{length, getD, take, drop, set, drop-of-length-le}
 use lib.Seq.{sets, sets-eq, take-suc}
 use Rattle.ground.specs.Sweep.{tabulated}
 use Rattle.ground.proofs.Sweep.{length-tabulated}
@@ -44,3 +44,11 @@ pub take-two : (l : List ℕ) (k : ℕ) → suc k < length l → take (suc (suc 
 take-two l k h =
     take-suc l (suc k) 0 h ∙ ap (λ (x : List ℕ). x ++ (getD l (suc k) 0 ∷ [])) (take-suc l k 0 (omega arith))
     ∙ append-assoc (take k l) (getD l k 0 ∷ []) (getD l (suc k) 0 ∷ [])
+
+-- all places filled: the table, and nothing of what was there
+pub filled-whole : (f : ℕ → ℕ) (l : List ℕ) → sets l 0 (tabulated f (length l) 0) ≡ tabulated f (length l) 0
+filled-whole f l =
+    let vs = tabulated f (length l) 0 in
+    let all : length vs ≡ length l = length-tabulated f (length l) 0 in
+    let none : length l ≤ length vs = omega (arith, all) in
+    sets-front vs l (omega (arith, all)) ∙ ap (λ (rest : List ℕ). vs ++ rest) (drop-of-length-le l none) ∙ append-nil vs

@@ -1,6 +1,6 @@
 #!/usr/bin/env python3
 # Works out document 01's cell numbers and the checksums over all measurements straight from its rules, in exact fractions.
-# It shares no code with the proved crates: second/compare looks for its lines in what the vectors program prints.
+# It shares no code with the proved crates: tests/compare looks for its lines in what the vectors program prints.
 import struct
 from fractions import Fraction
 

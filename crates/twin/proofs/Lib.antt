@@ -1,0 +1,2 @@
+mod Power
+pub mod Agree
