@@ -2,7 +2,7 @@
 -- other single-precision number has that value and sign.
 use mathlib.Core.Path.{_≡_, refl, sym}
 use mathlib.Core.Bool.{Bool, true, false}
-use Prim.Native.Nat.{ℕ, zero, suc, _*_, _<_, _^_}
+use Prim.Native.Nat.{ℕ, suc, _*_, _<_, _^_}
 use native.Mathlib.Nat.{mul-assoc, zero-lt-suc, lt-of-lt-of-le}
 use native.Mathlib.Omega.{arith}
 use lib.Dec.{T, lit≤}
@@ -13,7 +13,6 @@ use lib.Ieee.Fits.{round-fits}
 use lib.Ieee.Exact.{HasValue, round-exact}
 use Rattle.cells.specs.Voltage.{stepsOf, voltsOf, voltageOf}
 use Rattle.cells.specs.declared.Range.{Range}
-use Rattle.cells.specs.declared.Voltage.{Voltage}
 use Rattle.cells.proofs.Scaled.{few-steps}
 use Rattle.cells.proofs.Determined.{determined}
 

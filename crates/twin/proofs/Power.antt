@@ -1,5 +1,5 @@
 -- Power-on, turned away and done: what the two ways through the call leave.
-use mathlib.Core.Path.{_≡_, refl, sym, ap, _∙_}
+use mathlib.Core.Path.{_≡_, sym, ap, _∙_}
 use mathlib.Core.Bool.{Bool, true, false, cond, _&&_}
 use mathlib.Core.List.{List}
 use Prim.Native.Nat.{ℕ, _*_}
@@ -9,7 +9,6 @@ use borrow.Author.Tests.{eqb-true}
 use Rattle.ground.specs.Sweep.{tabulated}
 use Rattle.ground.proofs.Test.{and-right}
 use Rattle.twin.specs.Memory.{isChain, fresh, poweredOf, memoryOf, PoweredOn}
-use Rattle.twin.specs.declared.memory.Powered.{Powered}
 use Rattle.twin.specs.declared.memory.Powered.the-variants.{On, Twin}
 
 pub turned-away : (n : ℕ) (memory : List ℕ) → isChain n (length memory) ≡ false → PoweredOn n memory memory Twin
