@@ -1,25 +1,20 @@
 -- The volts are exact: the single-precision number of d steps is d * 5 / 16384, not near it, zero is plus zero, and no
 -- other single-precision number has that value and sign.
 use mathlib.Core.Path.{_≡_, refl, sym}
-use mathlib.Core.Bool.{Bool, true, false}
-use Prim.Native.Nat.{ℕ, suc, _*_, _<_, _^_}
+use mathlib.Core.Bool.{Bool, false}
+use Prim.Native.Nat.{ℕ, _*_, _<_, _^_}
 use native.Mathlib.Nat.{mul-assoc, zero-lt-suc, lt-of-lt-of-le}
 use native.Mathlib.Omega.{arith}
 use lib.Dec.{T, lit≤}
 use lib.Pow.{shl-lt}
-use lib.IntN.{ℤ, pos, negsuc, natAbs}
+use lib.IntN.{ℤ, pos, natAbs}
 use lib.Ieee.{Float, fin, binary32, round, fits}
 use lib.Ieee.Fits.{round-fits}
 use lib.Ieee.Exact.{HasValue, round-exact}
-use Rattle.cells.specs.Voltage.{stepsOf, voltsOf, voltageOf}
+use Rattle.cells.specs.Voltage.{stepsOf, negative, voltsOf, voltageOf}
 use Rattle.cells.specs.declared.Range.{Range}
 use Rattle.cells.proofs.Scaled.{few-steps}
 use Rattle.cells.proofs.Determined.{determined}
-
--- below 0 V
-abbrev pub negative : ℤ → Bool
-negative (pos d) = false
-negative (negsuc d) = true
 
 quotient-exact : (s : Bool) (a : ℕ) → a < 2 ^ 24 → HasValue (round binary32 s a 16384) s a 16384
 quotient-exact s a small =
@@ -29,13 +24,11 @@ quotient-exact s a small =
 
 pub volts-exact : (d : ℤ) → natAbs d < 16384 → HasValue (voltsOf d) (negative d) (natAbs d * 5) 16384
 unfolding voltsOf
-volts-exact (pos n) h = quotient-exact false (n * 5) (omega (arith, h))
-volts-exact (negsuc n) h = quotient-exact true (suc n * 5) (omega (arith, h))
+volts-exact d h = quotient-exact (negative d) (natAbs d * 5) (omega arith)
 
 pub volts-fit : (d : ℤ) → T (fits binary32 (voltsOf d))
 unfolding voltsOf
-volts-fit (pos n) = round-fits binary32 false (n * 5) 16384
-volts-fit (negsuc n) = round-fits binary32 true (suc n * 5) 16384
+volts-fit d = round-fits binary32 (negative d) (natAbs d * 5) 16384
 
 pub zero-is-plus : voltsOf (pos 0) ≡ fin false 0 (pos 0)
 unfolding voltsOf round

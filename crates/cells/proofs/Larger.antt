@@ -11,11 +11,11 @@ use lib.Signed.{ltZ}
 use lib.Ieee.{Float, nan, inf, fin, up, down, below, lt}
 use lib.Ieee.Fits.{down-pos}
 use lib.Ieee.Exact.{HasValue}
-use Rattle.cells.specs.Voltage.{stepsOf, nearestMicrovolts, microvoltsOf, voltsOf}
+use Rattle.cells.specs.Voltage.{stepsOf, nearestMicrovolts, microvoltsOf, negative, voltsOf}
 use Rattle.cells.specs.declared.Range.{Range}
 use Rattle.cells.specs.declared.Range.the-variants.{Unipolar, Bipolar}
 use Rattle.cells.proofs.Scaled.{few-steps}
-use Rattle.cells.proofs.Exact.{negative, volts-exact}
+use Rattle.cells.proofs.Exact.{volts-exact}
 
 pub steps-larger : (range : Range) (m n : ℕ) → m < n → ltZ (stepsOf range m) (stepsOf range n) ≡ true
 steps-larger Unipolar m n h = lt-ltb m n h

@@ -21,13 +21,23 @@ times-below n k = ap (λ (x : ℕ). negℤ (pos x)) (below n k)
     below : (n k : ℕ) → suc n * suc k ≡ suc (n * suc k + k)
     below n k = omega arith
 
-pub five-fits : (d : ℤ) → natAbs d < 16384 → SFits w32 (d *ℤ pos 5)
-five-fits (pos n) h = record { sfits = omega (arith, h) }
-five-fits (negsuc n) h = subst (SFits w32) (sym (times-below n 4)) (record { sfits = omega (arith, h) })
+-- in size, a product is the product of the sizes
+size-minus : (n : ℕ) → natAbs (negℤ (pos n)) ≡ n
+size-minus zero = refl
+size-minus (suc n) = refl
+
+pub size-times : (d k : ℤ) → natAbs (d *ℤ k) ≡ natAbs d * natAbs k
+size-times (pos n) (pos j) = refl
+size-times (pos n) (negsuc j) = size-minus (n * suc j)
+size-times (negsuc n) (pos j) = size-minus (suc n * j)
+size-times (negsuc n) (negsuc j) = refl
+
+pub small-fits : (z : ℤ) → natAbs z < 2147483648 → SFits w32 z
+small-fits (pos n) h = record { sfits = h }
+small-fits (negsuc n) h = record { sfits = omega arith }
 
 pub scaled-fits : (d : ℤ) → natAbs d < 16384 → SFits w32 (d *ℤ pos 78125)
-scaled-fits (pos n) h = record { sfits = omega (arith, h) }
-scaled-fits (negsuc n) h = subst (SFits w32) (sym (times-below n 78124)) (record { sfits = omega (arith, h) })
+scaled-fits d h = small-fits (d *ℤ pos 78125) (omega (arith, size-times d (pos 78125)))
 
 -- half the divisor, away from zero
 abbrev pub halfOf : ℤ → ℤ
@@ -81,8 +91,7 @@ few-steps Bipolar m h = by (ltb m 8192) refl
     by false e = omega (arith, h)
 
 pub few-fit : (d : ℤ) → natAbs d < 16384 → SFits w32 d
-few-fit (pos n) h = record { sfits = omega (arith, h) }
-few-fit (negsuc n) h = record { sfits = omega (arith, h) }
+few-fit d h = small-fits d (omega arith)
 
 pub steps-fit : (range : Range) (m : ℕ) → m < 16384 → SFits w32 (stepsOf range m)
 steps-fit range m h = few-fit (stepsOf range m) (few-steps range m h)

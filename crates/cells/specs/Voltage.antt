@@ -1,7 +1,7 @@
 -- The voltage of a measurement (document 01, "Cells"): unipolar m*5/16384 V, bipolar (m-8192)*5/16384 V.
-use mathlib.Core.Bool.{true, false}
+use mathlib.Core.Bool.{Bool, true, false}
 use Prim.Native.Nat.{ℕ, suc, _+_, _*_, _/_}
-use lib.IntN.{ℤ, pos, negsuc, negℤ, subℕ}
+use lib.IntN.{ℤ, pos, negsuc, negℤ, subℕ, natAbs}
 use lib.Ieee.{Float, binary32, round}
 use Rattle.cells.specs.declared.Range.{Range}
 use Rattle.cells.specs.declared.Range.the-variants.{Unipolar, Bipolar}
@@ -20,10 +20,14 @@ unfoldable pub microvoltsOf : ℤ → ℤ
 microvoltsOf (pos d) = pos (nearestMicrovolts d)
 microvoltsOf (negsuc d) = negℤ (pos (nearestMicrovolts (suc d)))
 
+-- below 0 V, and 0 V is not
+abbrev pub negative : ℤ → Bool
+negative (pos d) = false
+negative (negsuc d) = true
+
 -- d steps in volts, d * 5 / 16384, in single precision; that nothing is rounded away is a law
 unfoldable pub voltsOf : ℤ → Float
-voltsOf (pos d) = round binary32 false (d * 5) 16384
-voltsOf (negsuc d) = round binary32 true (suc d * 5) 16384
+voltsOf d = round binary32 (negative d) (natAbs d * 5) 16384
 
 abbrev pub voltageOf : Range → ℕ → Voltage
 voltageOf range m = record { microvolts = microvoltsOf (stepsOf range m); volts = voltsOf (stepsOf range m) }
