@@ -1,6 +1,6 @@
 -- One cell (document 01, "Cells"): CHANNEL comes first, then "not measured", then LOW BITS.
 use mathlib.Core.Bool.{Bool, cond, _&&_}
-use Prim.Native.Nat.{ℕ, zero, suc, _-_, _/_, _%_, _^_}
+use Prim.Native.Nat.{ℕ, zero, suc, _+_, _-_, _/_, _%_, _^_}
 use mathlib.Core.List.{List, [], _∷_}
 use lib.ListN.{getD}
 use lib.Dec.{eqb, leb}
@@ -24,13 +24,13 @@ cellOf range mask c register =
     NotMeasured)
     (Refused Channel)
 
--- The cells from c on, n of them, each by its own register: the first of the twelve is cell 1's.
-abbrev pub cellsFrom : Range → (mask : ℕ) → List ℕ → (n c : ℕ) → List Cell
-cellsFrom range mask registers zero c = []
-cellsFrom range mask registers (suc n) c = cellOf range mask c (getD registers (c - 1) 0) ∷ cellsFrom range mask registers n (suc c)
+-- Twelve cells, each by its own register: the first register is cell 1's.
+abbrev pub cellsFrom : Range → (mask : ℕ) → List ℕ → (n i : ℕ) → List Cell
+cellsFrom range mask registers zero i = []
+cellsFrom range mask registers (suc n) i = cellOf range mask (i + 1) (getD registers i 0) ∷ cellsFrom range mask registers n (i + 1)
 
 unfoldable pub cellsOf : Range → (mask : ℕ) → List ℕ → List Cell
-cellsOf range mask registers = cellsFrom range mask registers 12 1
+cellsOf range mask registers = cellsFrom range mask registers 12 0
 
 -- The paper's numbers ("Turned away"), 0 where nothing is turned away.
 abbrev pub refusalNumber : CellRefusal → ℕ

@@ -110,20 +110,11 @@ pub fn read_cell(range: Range, mask: u16, c: u8, register: Register) -> Cell
 pub fn read_cells(range: Range, mask: u16, registers: [u16; 12]) -> [Cell; 12]
     ensures { λ r. ⌜ r ≡ cellsOf range mask registers ⌝ }
 {
-    [
-        read_cell(range, mask, 1, Register(registers[0])),
-        read_cell(range, mask, 2, Register(registers[1])),
-        read_cell(range, mask, 3, Register(registers[2])),
-        read_cell(range, mask, 4, Register(registers[3])),
-        read_cell(range, mask, 5, Register(registers[4])),
-        read_cell(range, mask, 6, Register(registers[5])),
-        read_cell(range, mask, 7, Register(registers[6])),
-        read_cell(range, mask, 8, Register(registers[7])),
-        read_cell(range, mask, 9, Register(registers[8])),
-        read_cell(range, mask, 10, Register(registers[9])),
-        read_cell(range, mask, 11, Register(registers[10])),
-        read_cell(range, mask, 12, Register(registers[11])),
-    ]
+    let mut cells = [Cell::NotMeasured; 12];
+    for i in 0..12 {
+        cells[i] = read_cell(range, mask, i as u8 + 1, Register(registers[i]));
+    }
+    cells
 }
 
 // The paper's number of a refusal.
