@@ -18,21 +18,21 @@ use Rattle.remainder.specs.Turned.{Bytes}
 use Rattle.pec.specs.Pec.{pecOf}
 use Rattle.lines.specs.Line.{lineOf, byteAt, byteCount, bytesOf, pecOver}
 use Rattle.lines.proofs.Line.{length-bytes, bytes-at, bytes-bytes, byte-lt}
-use Rattle.lines.proofs.Whole.{own-bytes}
+use Rattle.scanning.proofs.Whole.{own-bytes}
 use Rattle.questions.specs.Question.{byForm}
 use Rattle.questions.specs.Shape.{shapeOf}
 use Rattle.questions.specs.Bytes.{lowHigh, onWire, sealed, writeCovered, readCovered, answerBytes}
 use Rattle.questions.specs.declared.question.Question.{Question}
 use Rattle.questions.proofs.ByKind.{of-hello, of-write, of-read}
 use Rattle.questions.proofs.Good.{good-kind, good-alive, hello-shape, write-shape, read-shape}
-use Rattle.reader.specs.Rows.{valueEchoed, echoed, pecHeld, pecRight, aliveHeld, aliveRight, checkByte, settledCount, settled}
+use Rattle.contents.specs.Rows.{valueEchoed, echoed, pecHeld, pecRight, aliveHeld, aliveRight, checkByte, settledCount, settled}
 use Rattle.readings.specs.Reading.{numberOf, valuesTaken}
-use Rattle.reader.specs.Judge.{judgeOf}
+use Rattle.judging.specs.Judge.{judgeOf}
 use Rattle.readings.specs.declared.Refusal.the-variants.{Count}
 use Rattle.readings.specs.declared.Reading.the-variants.{Counted, Written, Values, Refused}
 use Rattle.reader.specs.Read.{valueAt, valuesOn}
-use Rattle.reader.proofs.Accepted.{Taken, taken-settles, accepted-takes}
-use Rattle.reader.proofs.RowLaws.{other-pec, some-alive, read-check, hello-settled, write-settled, read-settled, count-right}
+use Rattle.judging.proofs.Accepted.{Taken, taken-settles, accepted-takes}
+use Rattle.contents.proofs.RowLaws.{other-pec, some-alive, read-check, hello-settled, write-settled, read-settled, count-right}
 use Rattle.acceptance.specs.Answer.{Registers, OneCount, AllValues, Fitting, AnswerTo, Answered, readingOf, handedOut}
 use Rattle.acceptance.specs.Answer.Fitting.{hello, write, read}
 use Rattle.acceptance.proofs.Wire.{length-wire, valueIn, wire-read}

@@ -15,7 +15,7 @@ use Rattle.remainder.specs.Turned.{Bytes}
 use Rattle.pec.specs.Pec.{pecOf}
 use Rattle.lines.specs.Line.{lineOf, byteAt, bytesOf, pecOver}
 use Rattle.lines.proofs.Line.{length-line, byte-of-line, bytes-of-line}
-use Rattle.lines.proofs.Whole.{line-passes}
+use Rattle.scanning.proofs.Whole.{line-passes}
 use Rattle.questions.specs.Question.{goodQuestion}
 use Rattle.questions.specs.Shape.{shapeOf}
 use Rattle.questions.specs.Bytes.{lowHigh, onWire, aliveByte, sealed, writeCovered, readCovered, answerBytes}
@@ -23,12 +23,12 @@ use Rattle.questions.specs.declared.question.Question.{Question}
 use Rattle.questions.proofs.ByKind.{of-hello, of-write, of-read}
 use Rattle.questions.proofs.Good.{good-alive, good-first, hello-shape, write-shape, read-shape}
 use Rattle.readings.specs.Reading.{valuesTaken}
-use Rattle.reader.specs.Rows.{valueEchoed, echoed, pecRight, aliveRight, checkByte, settledCount}
-use Rattle.reader.specs.Judge.{judgeOf}
+use Rattle.contents.specs.Rows.{valueEchoed, echoed, pecRight, aliveRight, checkByte, settledCount}
+use Rattle.judging.specs.Judge.{judgeOf}
 use Rattle.reader.specs.Read.{valueAt, valuesOn}
 use Rattle.readings.specs.declared.Reading.the-variants.{Counted, Written, Values}
-use Rattle.reader.proofs.Accepted.{Taken, taken-settles}
-use Rattle.reader.proofs.RowLaws
+use Rattle.judging.proofs.Accepted.{Taken, taken-settles}
+use Rattle.contents.proofs.RowLaws
 use Rattle.acceptance.specs.Answer.{Registers, OneCount, AllValues, Fitting, AnswerTo, Answered, readingOf, handedOut, Sendable}
 use Rattle.acceptance.specs.Answer.Fitting.{hello, write, read}
 use Rattle.acceptance.proofs.Wire.{bytes-append, bytes-cons, no-bytes, two-bytes, length-wire, wire-at, wire-bytes}

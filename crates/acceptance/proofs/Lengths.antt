@@ -13,16 +13,11 @@ use Rattle.lines.proofs.Line.{length-line}
 use Rattle.questions.specs.Question.{goodQuestion}
 use Rattle.questions.specs.Shape.{shapeOf}
 use Rattle.questions.specs.Bytes.{sealed, fillPairs, writeCovered, commandBytes}
-use Rattle.questions.specs.Command.{commandLine}
+use Rattle.commands.specs.Command.{commandLine}
 use Rattle.questions.specs.declared.question.Question.{Question}
 use Rattle.questions.proofs.Good.{good-alive, good-values, hello-shape, write-shape, read-shape}
-use Rattle.questions.proofs.Writing.{hello-command, write-command, read-command}
+use Rattle.questions.proofs.Bytes.{length-pairs, hello-command, write-command, read-command}
 use Rattle.acceptance.proofs.Sealed.{length-sealed}
-
-length-pairs : (n : ℕ) → length (fillPairs n) ≡ 2 * n
-unfolding fillPairs
-length-pairs zero = refl
-length-pairs (suc n) = let h = length-pairs n in omega arith
 
 module _ (q : Question) (good : goodQuestion q ≡ true) where
   bytes-hello : q .kind ≡ 0 → length (commandLine q) ≡ shapeOf q .words

@@ -15,7 +15,7 @@ use Rattle.pec.specs.Pec.{pecOf}
 use Rattle.pec.proofs.Byte.{pec-lt}
 use Rattle.questions.specs.Bytes.{aliveByte, sealed}
 use Rattle.questions.specs.declared.question.Question.{Question}
-use Rattle.questions.proofs.Writing.{alive-off}
+use Rattle.questions.proofs.Bytes.{alive-off}
 use Rattle.acceptance.proofs.Wire.{bytes-append, bytes-cons, no-bytes}
 
 module _ (q : Question) (added : ℕ) where

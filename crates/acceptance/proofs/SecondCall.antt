@@ -17,12 +17,14 @@ use Rattle.questions.specs.Question.{covers, goodQuestion}
 use Rattle.questions.specs.Shape.{shapeOf}
 use Rattle.questions.specs.declared.question.Question.{Question}
 use Rattle.readings.specs.Reading.{valuesTaken}
-use Rattle.reader.specs.Judge.{unless, judgeWords, judgeOf}
-use Rattle.reader.specs.Read.{valueAt, valuesOn, ReadDone, orderOf, carried, partOf}
+use Rattle.contents.specs.InOrder.{unless}
+use Rattle.judging.specs.Judge.{judgeWords, judgeOf}
+use Rattle.reader.specs.Read.{valueAt, valuesOn, ReadDone}
+use Rattle.parts.specs.Part.{orderOf, carried, partOf}
 use Rattle.readings.specs.declared.Reading.{Reading}
 use Rattle.readings.specs.declared.Refusal.the-variants as refusal
-use Rattle.reader.proofs.Accepted.{some-values}
-use Rattle.reader.proofs.Part.{inside, part-there}
+use Rattle.judging.proofs.Accepted.{some-values}
+use Rattle.parts.proofs.Part.{inside, part-there}
 use Rattle.acceptance.specs.Part.{partValue}
 
 -- four characters from a place, read as a value

@@ -9,7 +9,7 @@ use Rattle.questions.specs.Shape.{shapeOf}
 use Rattle.questions.specs.Bytes.{answerBytes}
 use Rattle.questions.specs.declared.question.Question.{Question}
 use Rattle.readings.specs.Reading.{valuesTaken}
-use Rattle.reader.specs.Judge.{judgeOf}
+use Rattle.judging.specs.Judge.{judgeOf}
 use Rattle.reader.specs.Read.{valuesOn}
 use Rattle.readings.specs.declared.Reading.{Reading}
 use Rattle.readings.specs.declared.Reading.the-variants.{Counted, Written, Values}

@@ -1,14 +1,10 @@
 -- Nothing is left open: two answers that meet a function's contract, as its source states it, are the same.
 use mathlib.Core.Path.{sym, _∙_}
 use Rattle.ground.specs.Agree.{Settled}
-use Rattle.characters.proofs.is_character.Reads as is-character
 use Rattle.characters.proofs.word_of.Reads as word-of
 use Rattle.characters.proofs.true_bits.Reads as true-bits
 use Rattle.characters.proofs.is_nibble.Reads as is-nibble
 use Rattle.characters.proofs.nibble_of.Reads as nibble-of
-
-pub is-character-settled : Settled is-character.Post
-is-character-settled l given r r′ left left′ p q = p ∙ sym q
 
 pub word-of-settled : Settled word-of.Post
 word-of-settled l given r r′ left left′ p q = p ∙ sym q

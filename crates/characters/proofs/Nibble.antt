@@ -1,5 +1,4 @@
--- Laws of nibbles and their words: decoding inverts encoding, a nibble's word is a character, and two nibbles' words differ in twice
--- as many bits as the nibbles.
+-- Laws of nibbles and their words: decoding inverts encoding, and two nibbles' words differ in twice as many bits as the nibbles.
 use mathlib.Core.Path.{_≡_, refl, sym, ap, _∙_}
 use mathlib.Core.Bool.{Bool, true, false, cond, _&&_, true≢false}
 use Prim.Native.Nat.{ℕ, zero, suc, _+_, _*_, _/_, _%_, _<_}
@@ -11,7 +10,7 @@ use borrow.Author.Tests.{eqb-true, eq-eqb}
 use Rattle.ground.specs.Sweep.{every}
 use Rattle.ground.proofs.Test.{and-left, and-right}
 use Rattle.ground.proofs.Sweep.{swept}
-use Rattle.characters.specs.Character.{isCharacter, wordOf, preamble, stop}
+use Rattle.characters.specs.Character.{wordOf, preamble, stop}
 use Rattle.characters.specs.Nibble.{nibbleWord, among, decode, isOne, isNibble, trueBits}
 use Rattle.characters.specs.declared.Decoded.{Decoded}
 use Rattle.characters.specs.declared.Decoded.the-variants.{Nibble, Nothing}
@@ -25,40 +24,25 @@ stop-word : stop ≡ wordOf 0x54
 unfolding wordOf
 stop-word = refl
 
-pub preamble-character : isCharacter preamble ≡ true
-unfolding isCharacter
-preamble-character = refl
-
-pub stop-character : isCharacter stop ≡ true
-unfolding isCharacter
-stop-character = refl
-
 pub true-bits-lt : (w : ℕ) → trueBits w < 16
 true-bits-lt w = omega arith
 
 -- ---- encoding, then decoding: one test of the sixteen nibbles
 
 sound : ℕ → Bool
-sound n = eqb (trueBits (nibbleWord n)) n && isCharacter (nibbleWord n) && isNibble (nibbleWord n)
+sound n = eqb (trueBits (nibbleWord n)) n && isNibble (nibbleWord n)
 
 all-sound : every sound 16 ≡ true
-unfolding sound nibbleWord wordOf isCharacter isNibble decode
+unfolding sound nibbleWord wordOf isNibble decode
 all-sound = refl
 
 pub true-bits-of : (n : ℕ) → n < 16 → trueBits (nibbleWord n) ≡ n
 unfolding sound
-true-bits-of n h =
-    eqb-true (trueBits (nibbleWord n)) n (and-left _ _ (and-left _ (isNibble (nibbleWord n)) (swept sound 16 all-sound n h)))
-
-pub nibble-character : (n : ℕ) → n < 16 → isCharacter (nibbleWord n) ≡ true
-unfolding sound
-nibble-character n h =
-    and-right (eqb (trueBits (nibbleWord n)) n) _ (and-left _ (isNibble (nibbleWord n)) (swept sound 16 all-sound n h))
+true-bits-of n h = eqb-true (trueBits (nibbleWord n)) n (and-left _ _ (swept sound 16 all-sound n h))
 
 pub nibble-nibble : (n : ℕ) → n < 16 → isNibble (nibbleWord n) ≡ true
 unfolding sound
-nibble-nibble n h =
-    and-right (eqb (trueBits (nibbleWord n)) n && isCharacter (nibbleWord n)) _ (swept sound 16 all-sound n h)
+nibble-nibble n h = and-right (eqb (trueBits (nibbleWord n)) n) _ (swept sound 16 all-sound n h)
 
 -- ---- decoding, then encoding
 

@@ -1,36 +1,11 @@
 -- One character (document 01, "The line"): a word of 16 bits. Bit 0 is the start bit (0), bits 1 to 8 the eight data bits, lowest
 -- first, bit 9 even parity over data and parity bit, bits 10 and 11 the stop bits (1). Bits 12 to 15 are 0.
-use mathlib.Core.Bool.{Bool, _&&_}
 use Prim.Native.Nat.{ℕ, zero, suc, _+_, _*_, _/_, _%_, _^_}
-use lib.Dec.{eqb}
 
 -- bit k of a word
 abbrev pub bit : ℕ → ℕ → ℕ
 bit zero w = w % 2
 bit (suc k) w = w / 2 ^ suc k % 2
-
--- Bits 12 to 15 are 0.
-abbrev pub highBitsClear : ℕ → Bool
-highBitsClear w = eqb (w / 2 ^ 12) 0
-
--- the start bit (0)
-abbrev pub started : ℕ → Bool
-started w = eqb (bit 0 w) 0
-
--- the stop bits (1)
-abbrev pub stopped : ℕ → Bool
-stopped w = eqb (bit 10 w) 1 && eqb (bit 11 w) 1
-
--- even parity over data and parity bit
-abbrev pub evenParity : ℕ → Bool
-evenParity w =
-    eqb
-    ((bit 1 w + bit 2 w + bit 3 w + bit 4 w + bit 5 w + bit 6 w + bit 7 w + bit 8 w + bit 9 w) % 2)
-    0
-
--- row 4, CHARACTER, is given where this is false
-unfoldable pub isCharacter : ℕ → Bool
-isCharacter w = highBitsClear w && started w && stopped w && evenParity w
 
 -- the parity bit of eight data bits: 1 where an odd number of them is set
 abbrev pub parityBit : ℕ → ℕ

@@ -1,6 +1,5 @@
 // One character of the line, a word of 16 bits (document 01, "The line"; data sheet 004, Table 20).
 ghost use mathlib.Core.Path.{_≡_};
-ghost use Rattle.characters.specs.Character.{isCharacter, evenParity};
 ghost use Rattle.characters.specs.Nibble.{nibbleWord, trueBits, decode, isNibble};
 
 // The preamble carries data 15h, the stop character 54h.
@@ -12,42 +11,6 @@ pub const STOP: u16 = 0xEA8;
 pub enum Decoded {
     Nibble(u8),
     Nothing,
-}
-
-// Whether the set bits among bits 1 to 9 are even in number.
-fn even_parity(w: u16) -> bool
-    ensures { λ r. ⌜ r ≡ evenParity w ⌝ }
-{
-    (w / 2 % 2
-        + w / 4 % 2
-        + w / 8 % 2
-        + w / 16 % 2
-        + w / 32 % 2
-        + w / 64 % 2
-        + w / 128 % 2
-        + w / 256 % 2
-        + w / 512 % 2)
-        % 2
-        == 0
-}
-
-// The check of one character: high bits, start, stops, parity.
-pub fn is_character(w: u16) -> bool
-    ensures { λ r. ⌜ r ≡ isCharacter w ⌝ }
-{
-    if w / 4096 != 0 {
-        return false;
-    }
-    if w % 2 != 0 {
-        return false;
-    }
-    if w / 1024 % 2 != 1 {
-        return false;
-    }
-    if w / 2048 % 2 != 1 {
-        return false;
-    }
-    even_parity(w)
 }
 
 // The words of the sixteen nibbles.

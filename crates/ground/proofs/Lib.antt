@@ -1,3 +1,4 @@
 pub mod Test
 pub mod Sweep
+pub mod Same
 pub mod Lists

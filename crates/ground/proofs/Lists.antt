@@ -6,9 +6,9 @@ use native.Mathlib.Nat.{add-zero, add-suc, suc-add, zero-add}
 use native.Mathlib.Numerals.{add-one}
 use native.Mathlib.Omega.{arith}
 use lib.ListN.{length, getD, take, drop, set, drop-of-length-le}
-use lib.Seq.{sets, sets-eq, take-suc}
+use lib.Seq.{sets, sets-eq, take-suc, ext-getD}
 use Rattle.ground.specs.Sweep.{tabulated}
-use Rattle.ground.proofs.Sweep.{length-tabulated}
+use Rattle.ground.proofs.Sweep.{length-tabulated, tabulated-at}
 
 -- two runs of stores, one behind the other
 pub sets-append : (l : List ℕ) (i : ℕ) (xs ys : List ℕ) → sets l i (xs ++ ys) ≡ sets (sets l i xs) (i + length xs) ys
@@ -31,6 +31,10 @@ tabulated-last f (suc n) i =
     ap (λ (l : List ℕ). f i ∷ l)
     (tabulated-last f n (suc i) ∙ ap (λ (k : ℕ). tabulated f n (suc i) ++ (f k ∷ [])) (suc-add i n ∙ sym (add-suc i n)))
 
+-- one more entry
+pub tabulated-next : (f : ℕ → ℕ) (n i : ℕ) → tabulated f n i ++ (f (i + n) ∷ []) ≡ tabulated f (n + 1) i
+tabulated-next f n i = sym (ap (λ (m : ℕ). tabulated f m i) (add-one n) ∙ tabulated-last f n i)
+
 -- one more place
 pub filled-next : (f : ℕ → ℕ) (l : List ℕ) (k : ℕ) → set (sets l 0 (tabulated f k 0)) k (f k) ≡ sets l 0 (tabulated f (k + 1) 0)
 filled-next f l k =
@@ -52,3 +56,10 @@ filled-whole f l =
     let all : length vs ≡ length l = length-tabulated f (length l) 0 in
     let none : length l ≤ length vs = omega (arith, all) in
     sets-front vs l (omega (arith, all)) ∙ ap (λ (rest : List ℕ). vs ++ rest) (drop-of-length-le l none) ∙ append-nil vs
+
+-- a list is the table of its own entries
+pub tabulated-own : (l : List ℕ) → tabulated (λ (k : ℕ). getD l k 0) (length l) 0 ≡ l
+tabulated-own l =
+    let own : ℕ → ℕ = λ k. getD l k 0 in
+    ext-getD 0 (tabulated own (length l) 0) l (length-tabulated own (length l) 0)
+    (λ i h. tabulated-at own (length l) 0 i (omega (arith, length-tabulated own (length l) 0)) ∙ ap own (zero-add i))

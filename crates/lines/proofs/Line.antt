@@ -106,3 +106,16 @@ length-part line to = length-take to (bytesOf line) ∙ ap (min to) (length-byte
 
 pub part-at : (line : List ℕ) (to i : ℕ) → i < min to (byteCount line) → getD (take to (bytesOf line)) i 0 ≡ byteAt line i
 part-at line to i h = getD-take to (bytesOf line) i 0 (omega arith) ∙ bytes-at line i (omega arith)
+
+-- the places of a line of n bytes: the first, two for each byte, the last
+pub by-place : (P : ℕ → Type 0) (n : ℕ) → P 0 → ((i : ℕ) → i < n → P (1 + 2 * i)) → ((i : ℕ) → i < n → P (2 + 2 * i)) → P (1 + 2 * n)
+    → (j : ℕ) → j < 2 * n + 2 → P j
+by-place P n first low high last zero h = first
+by-place P n first low high last (suc k) h = by-digit (k % 2) refl
+  where
+    by-digit : (d : ℕ) → k % 2 ≡ d → P (suc k)
+    by-digit zero e =
+        ⊎-elim (λ lt. let at : 1 + 2 * (k / 2) ≡ suc k = omega arith in subst P at (low (k / 2) lt))
+        (λ ge. let at : 1 + 2 * n ≡ suc k = omega arith in subst P at last) (below-or-not (k / 2) n)
+    by-digit (suc zero) e = let at : 2 + 2 * (k / 2) ≡ suc k = omega arith in subst P at (high (k / 2) (omega arith))
+    by-digit (suc (suc d)) e = absurd (omega arith)

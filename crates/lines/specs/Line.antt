@@ -1,8 +1,6 @@
 -- A line (document 01, "The line" and "Commands and answers"): preamble, bytes, stop. A byte is two characters, low nibble first.
-use mathlib.Core.Bool.{Bool, _&&_}
 use mathlib.Core.List.{List, [], _∷_, _++_}
 use Prim.Native.Nat.{ℕ, _+_, _-_, _*_, _/_, _%_}
-use lib.Dec.{eqb}
 use lib.ListN.{length, getD, take, drop}
 use Rattle.ground.specs.Sweep.{tabulated}
 use Rattle.pec.specs.Pec.{pecOf}
@@ -17,10 +15,6 @@ charactersOf (b ∷ bytes) = nibbleWord (b % 16) ∷ nibbleWord (b / 16) ∷ cha
 -- the line of some bytes
 unfoldable pub lineOf : List ℕ → List ℕ
 lineOf bytes = preamble ∷ (charactersOf bytes ++ (stop ∷ []))
-
--- FRAME: the first word is the preamble and the last the stop character
-unfoldable pub framed : List ℕ → Bool
-framed line = eqb (getD line 0 0) preamble && eqb (getD line (length line - 1) 0) stop
 
 -- byte i of a line, from the words 1 + 2i and 2 + 2i; a word past the end reads as 0
 unfoldable pub byteAt : List ℕ → ℕ → ℕ

@@ -1,32 +1,8 @@
--- A line written into lent words: all of it at the front, the rest as it was; or nothing.
-use mathlib.Core.Path.{_≡_}
-use mathlib.Core.Bool.{cond}
+-- Words lent for writing.
 use mathlib.Core.List.{List, _++_}
-use Prim.Native.Nat.{ℕ, _+_, _*_, _/_, _%_}
-use lib.Dec.{leb}
-use lib.ListN.{length, drop, set}
-use Rattle.characters.specs.Nibble.{nibbleWord}
-use Rattle.lines.specs.Line.{lineOf}
-use Rattle.lines.specs.declared.write.Put.{Put}
-use Rattle.lines.specs.declared.write.Put.the-variants.{Words, NoRoom}
+use Prim.Native.Nat.{ℕ}
+use lib.ListN.{length, drop}
 
 -- some words with one list at the front, the rest as it was
 abbrev pub atFront : List ℕ → List ℕ → List ℕ
 atFront line words = line ++ drop (length line) words
-
--- the answer: how many words the line has, where it fits
-unfoldable pub putOf : (bytes out : List ℕ) → Put
-putOf bytes out = cond (leb (length (lineOf bytes)) (length out)) (Words (length (lineOf bytes))) NoRoom
-
--- the lent words after the call
-unfoldable pub outOf : (bytes out : List ℕ) → List ℕ
-outOf bytes out = cond (leb (length (lineOf bytes)) (length out)) (atFront (lineOf bytes) out) out
-
--- what `put_line` says and leaves
-pub record LinePut (bytes before after : List ℕ) (r : Put) : Type 0 where
-  pub says : r ≡ putOf bytes before
-  pub leaves : after ≡ outOf bytes before
-
--- one byte's two characters at their places
-abbrev pub withByte : List ℕ → ℕ → ℕ → List ℕ
-withByte out i byte = set (set out (2 * i + 1) (nibbleWord (byte % 16))) (2 * i + 2) (nibbleWord (byte / 16))

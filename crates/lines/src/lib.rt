@@ -1,3 +1,2 @@
-// A line: many characters in lent words (document 01, "The line" and rows 4 to 6 of "Turned away").
+// A line: many characters in lent words, and the bytes that they carry (document 01, "The line").
 pub mod read;
-pub mod write;

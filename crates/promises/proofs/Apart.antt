@@ -1,18 +1,18 @@
 -- How far the right answers to one READALL question are apart on the line: twice as many bits as their values, with the check byte, and
 -- the two PECs differ in. The first two bytes and the alive byte are the same in all of them.
-use mathlib.Core.Path.{_≡_, refl, sym, ap, ap₂, _∙_, subst}
+use mathlib.Core.Path.{_≡_, sym, ap, ap₂, _∙_}
 use mathlib.Core.Bool.{true}
 use mathlib.Core.List.{List, [], _∷_, _++_}
-use Prim.Native.Nat.{ℕ, zero, suc, _+_, _*_, _≤_, _<_}
+use Prim.Native.Nat.{ℕ, _+_, _*_, _≤_}
 use native.Mathlib.Omega.{arith}
 use lib.Bits.{bitXor, xor-self}
 use lib.Count.{ones}
 use lib.ListN.{length, length-append}
 use Rattle.remainder.specs.Register.{run}
 use Rattle.remainder.specs.Turned.{turned, weight, distance, Bytes}
-use Rattle.remainder.proofs.Turned.{no-ones, no-distance, distance-self, distance-append, distance-turned}
+use Rattle.remainder.proofs.Turned.{no-ones, distance-self, distance-append, distance-turned}
 use Rattle.pec.specs.Pec.{byteStep, pecOf}
-use Rattle.pec.specs.Distance.{apartBy, fewBytes}
+use Rattle.pec.specs.Distance.{apartBy}
 use Rattle.pec.proofs.Distance.{distance-two, distance-three}
 use Rattle.lines.specs.Line.{lineOf}
 use Rattle.lines.proofs.Line.{length-line}

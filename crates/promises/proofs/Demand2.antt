@@ -11,13 +11,13 @@ use lib.ListN.{length}
 use Rattle.lines.specs.Write.{atFront}
 use Rattle.questions.specs.Question.{goodQuestion}
 use Rattle.questions.specs.Shape.{shapeOf}
-use Rattle.questions.specs.Command.{commandLine}
+use Rattle.commands.specs.Command.{commandLine}
 use Rattle.questions.specs.declared.question.Question.{Question}
 use Rattle.questions.proofs.ByKind.{of-hello, of-write, of-read}
 use Rattle.readings.specs.Reading.{numberOf}
 use Rattle.reader.specs.Read.{ReadDone}
 use Rattle.readings.specs.declared.Reading.{Reading}
-use Rattle.reader.proofs.Accepted.{accepted-takes}
+use Rattle.judging.proofs.Accepted.{accepted-takes}
 use Rattle.acceptance.specs.Answer.{Fitting, AnswerTo, Sendable, readingOf}
 use Rattle.acceptance.specs.Answer.Fitting.{hello, write, read}
 use Rattle.acceptance.proofs.Lengths.{command-words, words-most}

@@ -17,7 +17,7 @@ use Rattle.questions.specs.Bytes.{answerBytes}
 use Rattle.questions.specs.declared.question.Question.{Question}
 use Rattle.questions.proofs.ByKind.{of-read}
 use Rattle.readings.specs.Reading.{numberOf}
-use Rattle.reader.specs.Judge.{judgeOf}
+use Rattle.judging.specs.Judge.{judgeOf}
 use Rattle.reader.specs.Read.{ReadDone}
 use Rattle.readings.specs.declared.Reading.{Reading}
 use Rattle.readings.specs.declared.Reading.the-variants.{Values}

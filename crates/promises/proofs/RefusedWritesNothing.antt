@@ -1,22 +1,29 @@
--- Demand 1: a call that is turned away has written nothing into lent memory. Of the reader and of the command writer, for every question,
--- every line and every output, whichever row turned it away.
+-- Demand 1: a call that is turned away has written nothing into lent memory. Of the reader, of the command writer and of the twin's calls,
+-- for every question, every line, every memory and every output, whichever row turned it away.
 use mathlib.Core.Path.{_≡_, refl, sym, ap, _∙_}
 use mathlib.Core.Bool.{Bool, true, false, cond}
 use mathlib.Core.List.{List}
-use Prim.Native.Nat.{ℕ, _≤_}
+use Prim.Native.Nat.{ℕ, _*_, _≤_}
 use native.Mathlib.Omega.{arith}
 use lib.Dec.{leb}
 use lib.ListN.{length}
 use Rattle.lines.specs.Write.{atFront}
 use Rattle.questions.specs.Question.{goodQuestion}
-use Rattle.questions.specs.Command.{commandLine, issuedOf, commandOut, CommandPut, issuedNumber}
+use Rattle.commands.specs.Command.{commandLine, issuedOf, commandOut, CommandPut, issuedNumber}
 use Rattle.questions.specs.declared.question.Question as asked
-use Rattle.questions.specs.declared.command.Issued.{Issued}
-use Rattle.questions.specs.declared.command.Issued.the-variants.{Words, Question, Room}
+use Rattle.commands.specs.declared.Issued.{Issued}
+use Rattle.commands.specs.declared.Issued.the-variants.{Words, Question, Room}
 use Rattle.readings.specs.Reading.{valuesTaken}
 use Rattle.readings.specs.declared.Reading.{Reading}
 use Rattle.readings.specs.declared.Reading.the-variants.{Counted, Written, Values, Refused}
 use Rattle.reader.specs.Read.{valuesOn, ReadDone}
+use Rattle.ground.specs.Sweep.{tabulated}
+use Rattle.twin.specs.Memory.{isChain, fresh, poweredOf, memoryOf, PoweredOn, poweredNumber}
+use Rattle.twin.specs.Step.{Standing, steppedOf, outOf, memoryAfter, Done, steppedNumber}
+use Rattle.twin.specs.declared.memory.Powered.{Powered}
+use Rattle.twin.specs.declared.memory.Powered.the-variants as powered
+use Rattle.twin.specs.declared.step.Stepped.{Stepped}
+use Rattle.twin.specs.declared.step.Stepped.the-variants as stepped
 use Rattle.promises.specs.Damage.{TurnedAway}
 
 -- a reading of a line turned away carries no values
@@ -40,3 +47,24 @@ refused-command q before after r done away =
     by-tests true true e = absurd (omega arith)
     by-tests true false e = refl
     by-tests false room e = refl
+
+-- the twin: power-on, and a device or a chain stepped
+pub refused-power-on : (n : ℕ) (before after : List ℕ) (r : Powered) → PoweredOn n before after r → 1 ≤ poweredNumber r → after ≡ before
+unfolding poweredOf memoryOf
+refused-power-on n before after r done away = done .leaves ∙ by-test (isChain n (length before)) (ap poweredNumber (done .says))
+  where
+    by-test : (fits : Bool) → poweredNumber r ≡ poweredNumber (cond fits powered.On powered.Twin) → cond fits (tabulated fresh (256 * n) 0) before ≡ before
+    by-test true e = absurd (omega arith)
+    by-test false e = refl
+
+pub refused-step : (fits : Bool) (before after : Standing) (out outAfter memoryLeft : List ℕ) (r : Stepped) → Done fits before after out outAfter memoryLeft r
+    → 1 ≤ steppedNumber r → (outAfter ≡ out) × (memoryLeft ≡ before .memory)
+unfolding steppedOf outOf memoryAfter
+refused-step fits before after out outAfter memoryLeft r done away =
+    let by = by-tests fits (leb (length (before .line)) (length out)) (ap steppedNumber (done .says)) in (done .leaves ∙ by .0, done .remembers ∙ by .1)
+  where
+    by-tests : (fits room : Bool) → steppedNumber r ≡ steppedNumber (cond fits (cond room stepped.Handed stepped.Room) stepped.Twin)
+        → (cond fits (cond room (atFront (after .line) out) out) out ≡ out) × (cond fits (cond room (after .memory) (before .memory)) (before .memory) ≡ before .memory)
+    by-tests true true e = absurd (omega arith)
+    by-tests true false e = (refl, refl)
+    by-tests false room e = (refl, refl)

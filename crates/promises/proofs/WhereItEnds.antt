@@ -4,7 +4,7 @@ use mathlib.Core.Path.{_≡_, refl, sym, ap, ap₂, _∙_, subst}
 use mathlib.Core.Bool.{Bool, true, false, cond, _||_}
 use mathlib.Core.Logic.{⊎-elim}
 use mathlib.Core.List.{List, [], _∷_, _++_}
-use Prim.Native.Nat.{ℕ, zero, suc, _+_, _*_, _/_, _%_, _^_, _≤_, _<_}
+use Prim.Native.Nat.{ℕ, zero, suc, _+_, _*_, _/_, _%_, _≤_, _<_}
 use native.Mathlib.Nat.{suc-inj}
 use native.Mathlib.Omega.{arith}
 use lib.Bits.{bitXor, xor-self, xor-mod, xor-shr, xor-lt, xor-zero-r}
@@ -19,7 +19,7 @@ use Rattle.remainder.specs.Register.{run, times}
 use Rattle.remainder.specs.Turned.{turned, weight, distance, Bytes}
 use Rattle.remainder.proofs.Xor.{xor-back}
 use Rattle.remainder.proofs.Linear.{run-linear}
-use Rattle.remainder.proofs.Turned.{distance-is, length-turned, distance-turned, distance-self}
+use Rattle.remainder.proofs.Turned.{length-turned, distance-turned, distance-self}
 use Rattle.pec.specs.Pec.{bitStep, byteStep, pecOf}
 use Rattle.pec.specs.Distance.{apartBy}
 use Rattle.pec.proofs.Byte.{byte-linear, run-lt}

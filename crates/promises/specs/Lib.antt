@@ -1,3 +1,4 @@
 pub mod Damage
 pub mod Ends
 pub mod Acceptance
+pub mod Trip

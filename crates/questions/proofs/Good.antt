@@ -5,7 +5,7 @@ use mathlib.Core.Logic.{_⊎_, inl, inr, ⊎-elim}
 use Prim.Native.Nat.{ℕ, zero, suc, _+_, _*_, _≤_, _<_}
 use native.Mathlib.Omega.{arith}
 use lib.Dec.{leb, ltb, eqb, lit<, lit≤}
-use borrow.Author.Tests.{leb-true, ltb-true, eqb-true, eq-eqb, not-true}
+use borrow.Author.Tests.{leb-true, ltb-true, eqb-true, eq-eqb, not-true, le-leb, lt-ltb}
 use Rattle.ground.proofs.Test.{and-left, and-right, or-cases, or-left, or-right}
 use Rattle.questions.specs.Question.{goodChain, goodQuestion}
 use Rattle.questions.specs.Shape.{shapeAt, shapeOf}
@@ -59,6 +59,15 @@ module _ (q : Question) (good : goodQuestion q ≡ true) where
   good-values =
       each-kind (λ (k : ℕ). q .kind ≡ k → shapeAt k q .values ≤ 32) (λ e. lit≤ tt) (λ e. lit≤ tt) (λ e. lit≤ tt)
       (λ e. good-count (omega arith) .1) (λ e. lit≤ tt) (q .kind) good-kind refl
+
+-- a question all of whose numbers are within their bounds is good
+pub within-bounds : (q : Question) → q .kind ≤ 4 → q .alive ≤ 1 → 1 ≤ q .n → q .n ≤ 32 → q .device < q .n → goodQuestion q ≡ true
+unfolding goodQuestion goodChain
+within-bounds q kind alive least most device =
+    let named = eqb (q .kind) 2 || eqb (q .kind) 4 in
+    let chain : (leb 1 (q .n) && leb (q .n) 32 && (not named || ltb (q .device) (q .n))) ≡ true =
+    simp (le-leb _ _ least, le-leb _ _ most) (or-right (not named) (ltb (q .device) (q .n)) (lt-ltb _ _ device)) in
+    simp (le-leb _ _ kind, le-leb _ _ alive) (or-right (eqb (q .kind) 0) _ chain)
 
 -- ---- the shape of each form, of any question
 

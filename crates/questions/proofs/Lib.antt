@@ -1,4 +1,5 @@
 pub mod ByKind
 pub mod Good
-pub mod Writing
+pub mod Bytes
+pub mod Worked
 pub mod Agree

@@ -1,4 +1,3 @@
 pub mod Question
 pub mod Shape
 pub mod Bytes
-pub mod Command

@@ -1,4 +1,3 @@
-// A question to the chain: what it asks, the bytes and lengths of its command and its answer, and the command written out
-// (document 01, "Commands and answers" and row 1 of "Turned away").
-pub mod command;
+// A question to the chain: what it asks, and the bytes and lengths of its command and its answer (document 01, "Commands and answers" and
+// row 1 of "Turned away").
 pub mod question;

@@ -1,5 +1,1 @@
-pub mod RowLaws
-pub mod Unless
-pub mod Accepted
-pub mod Part
 pub mod Agree

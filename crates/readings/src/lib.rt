@@ -49,17 +49,9 @@ fn refusal_place(why: Refusal) -> usize
     ensures { λ r. ⌜ r ≡ refusalPlace why ⌝ }
 {
     match why {
-        Refusal::Question => 0,
-        Refusal::Room => 0,
-        Refusal::Length => 0,
         Refusal::Character(i) => i,
-        Refusal::Frame => 0,
         Refusal::Manchester(i) => i,
-        Refusal::Echo => 0,
-        Refusal::Pec => 0,
-        Refusal::Alive => 0,
-        Refusal::Check(_) => 0,
-        Refusal::Count(_) => 0,
+        _ => 0,
     }
 }
 
@@ -68,17 +60,9 @@ fn refusal_byte(why: Refusal) -> u8
     ensures { λ r. ⌜ r ≡ refusalByte why ⌝ }
 {
     match why {
-        Refusal::Question => 0,
-        Refusal::Room => 0,
-        Refusal::Length => 0,
-        Refusal::Character(_) => 0,
-        Refusal::Frame => 0,
-        Refusal::Manchester(_) => 0,
-        Refusal::Echo => 0,
-        Refusal::Pec => 0,
-        Refusal::Alive => 0,
         Refusal::Check(b) => b,
         Refusal::Count(b) => b,
+        _ => 0,
     }
 }
 
@@ -87,10 +71,8 @@ pub fn number_of(reading: Reading) -> u8
     ensures { λ r. ⌜ r ≡ numberOf reading ⌝ }
 {
     match reading {
-        Reading::Counted(_) => 0,
-        Reading::Written => 0,
-        Reading::Values(_) => 0,
         Reading::Refused(why) => refusal_number(why),
+        _ => 0,
     }
 }
 
@@ -99,10 +81,8 @@ pub fn place_of(reading: Reading) -> usize
     ensures { λ r. ⌜ r ≡ placeOf reading ⌝ }
 {
     match reading {
-        Reading::Counted(_) => 0,
-        Reading::Written => 0,
-        Reading::Values(_) => 0,
         Reading::Refused(why) => refusal_place(why),
+        _ => 0,
     }
 }
 
@@ -111,10 +91,8 @@ pub fn byte_of(reading: Reading) -> u8
     ensures { λ r. ⌜ r ≡ byteOf reading ⌝ }
 {
     match reading {
-        Reading::Counted(_) => 0,
-        Reading::Written => 0,
-        Reading::Values(_) => 0,
         Reading::Refused(why) => refusal_byte(why),
+        _ => 0,
     }
 }
 
@@ -124,9 +102,7 @@ pub fn count_of(reading: Reading) -> u8
 {
     match reading {
         Reading::Counted(n) => n,
-        Reading::Written => 0,
-        Reading::Values(_) => 0,
-        Reading::Refused(_) => 0,
+        _ => 0,
     }
 }
 
@@ -135,9 +111,7 @@ pub fn values_taken(reading: Reading) -> usize
     ensures { λ r. ⌜ r ≡ valuesTaken reading ⌝ }
 {
     match reading {
-        Reading::Counted(_) => 0,
-        Reading::Written => 0,
         Reading::Values(m) => m,
-        Reading::Refused(_) => 0,
+        _ => 0,
     }
 }

@@ -4,6 +4,9 @@ use denote.Ref.{now}
 use Rattle.ground.specs.Agree.{Settled, SettledIn}
 use Rattle.twin.proofs.memory.power_on.Reads as power-on
 use Rattle.twin.proofs.memory.powered_number.Reads as powered-number
+use Rattle.twin.proofs.step.step.Reads as step
+use Rattle.twin.proofs.step.run_chain.Reads as run-chain
+use Rattle.twin.proofs.step.stepped_number.Reads as stepped-number
 
 pub power-on-settled : Settled power-on.Post
 power-on-settled l given r r′ left left′ p q = p .says ∙ sym (q .says)
@@ -14,3 +17,25 @@ power-on-settled-memory l given r r′ left left′ p q = p .leaves ∙ sym (q .
 
 pub powered-number-settled : Settled powered-number.Post
 powered-number-settled l given r r′ left left′ p q = p ∙ sym q
+
+pub step-settled : Settled step.Post
+step-settled l given r r′ left left′ p q = p .says ∙ sym (q .says)
+
+-- the lent memory, and the lent output
+pub step-settled-memory : SettledIn (λ l left. now (left .1 .1 .0)) step.Post
+step-settled-memory l given r r′ left left′ p q = p .remembers ∙ sym (q .remembers)
+
+pub step-settled-out : SettledIn (λ l left. now (left .1 .1 .1 .1 .0)) step.Post
+step-settled-out l given r r′ left left′ p q = p .leaves ∙ sym (q .leaves)
+
+pub run-chain-settled : Settled run-chain.Post
+run-chain-settled l given r r′ left left′ p q = p .says ∙ sym (q .says)
+
+pub run-chain-settled-memory : SettledIn (λ l left. now (left .1 .0)) run-chain.Post
+run-chain-settled-memory l given r r′ left left′ p q = p .remembers ∙ sym (q .remembers)
+
+pub run-chain-settled-out : SettledIn (λ l left. now (left .1 .1 .1 .0)) run-chain.Post
+run-chain-settled-out l given r r′ left left′ p q = p .leaves ∙ sym (q .leaves)
+
+pub stepped-number-settled : Settled stepped-number.Post
+stepped-number-settled l given r r′ left left′ p q = p ∙ sym q

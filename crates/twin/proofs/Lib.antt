@@ -1,2 +1,4 @@
 mod Power
+pub mod Stepping
+pub mod Registers
 pub mod Agree

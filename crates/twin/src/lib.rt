@@ -1,2 +1,4 @@
-// The twin: a stepped model of a chain of devices (document 01, "The twin"). So far its register memory and power-on.
+// The twin: a stepped model of a chain of devices (document 01, "The twin").
+mod chain;
 pub mod memory;
+pub mod step;

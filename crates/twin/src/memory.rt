@@ -1,26 +1,15 @@
 // The register memory of a chain, lent by the caller: device k's register r is word 256k + r.
+use crate::chain::is_chain;
 ghost use mathlib.Core.Path.{_≡_};
 ghost use Prim.Native.Nat.{_%_};
 ghost use lib.ListN.{length};
 ghost use Rattle.ground.specs.Sweep.{tabulated};
-ghost use Rattle.twin.specs.Memory.{isChain, figure, fresh, PoweredOn, poweredNumber};
+ghost use Rattle.twin.specs.Memory.{figure, fresh, PoweredOn, poweredNumber};
 
 // The memory was filled, or row 15, TWIN.
 pub enum Powered {
     On,
     Twin,
-}
-
-fn is_chain(n: u8, words: usize) -> bool
-    ensures { λ r. ⌜ r ≡ isChain n words ⌝ }
-{
-    if n < 1 {
-        return false;
-    }
-    if 32 < n {
-        return false;
-    }
-    words == 256 * n as usize
 }
 
 // What a register holds after power-on.

@@ -6,11 +6,10 @@ mod wire;
 ghost use mathlib.Core.Path.{_≡_};
 ghost use lib.ListN.{length};
 use lines::read::byte_at;
-use lines::read::first_no_character;
-use lines::read::first_no_nibble;
-use lines::read::is_framed;
 use lines::read::pec_over;
-use lines::write::put_line;
+use scanning::first_no_character;
+use scanning::first_no_nibble;
+use scanning::is_framed;
 use show::byte;
 use show::bytes_of;
 use show::place;
@@ -18,6 +17,7 @@ use show::text;
 use show::word;
 use show::words_of;
 use show::yes_or_no;
+use writing::put_line;
 
 fn pec_of(bytes: &[u8]) {
     text(b"PEC");

@@ -1,6 +1,6 @@
 // What the program prints: bytes and words in hexadecimal, places in decimal.
-use lines::read::Place;
 use lines::read::byte_at;
+use scanning::Place;
 
 pub fn text(s: &[u8]) {
     io::write_all(libc::STDOUT_FILENO, s);

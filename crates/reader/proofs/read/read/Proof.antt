@@ -1,13 +1,12 @@
 -- `read` meets its contract: the values that the verdict carries are handed out, and there are none where it turned the line away.
-use mathlib.Core.Path.{_≡_, ap, _∙_}
-use mathlib.Core.List.{List}
+use mathlib.Core.Path.{ap, _∙_}
 use Prim.Native.Nat.{ℕ}
 use native.Mathlib.Omega.{arith}
 use lib.ListN.{length}
 use Rattle.lines.specs.Write.{atFront}
 use Rattle.readings.specs.Reading.{valuesTaken}
 use Rattle.reader.specs.Read.{valuesOn}
-use Rattle.reader.proofs.Accepted.{values-fit}
+use Rattle.judging.proofs.Accepted.{values-fit}
 use borrow.Author.Needs.{needs}
 use Rattle.reader.proofs.read.read.Statement.{statement}
 use Rattle.reader.proofs.read.read.Tie as tie

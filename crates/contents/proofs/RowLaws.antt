@@ -1,0 +1,127 @@
+-- What decides each of rows 7 to 11, said of plain numbers: the answers of the functions that look at one row.
+use mathlib.Core.Path.{_≡_, sym, ap, ap₂, _∙_}
+use mathlib.Core.Bool.{Bool, true, false, cond, _&&_}
+use mathlib.Core.Logic.{⊎-elim}
+use mathlib.Core.List.{List}
+use Prim.Native.Nat.{ℕ, _+_, _-_, _%_, _≤_, _<_}
+use native.Mathlib.Nat.{eq-zero-or-pos}
+use native.Mathlib.Omega.{arith}
+use lib.Dec.{eqb, leb}
+use borrow.Author.Tests.{eq-eqb, ne-eqb, le-leb, lt-leb}
+use Rattle.ground.proofs.Test.{below-or-not}
+use Rattle.lines.specs.Line.{byteAt}
+use Rattle.questions.specs.Question.{byForm}
+use Rattle.questions.specs.Shape.{shapeOf}
+use Rattle.questions.specs.declared.question.Question.{Question}
+use Rattle.questions.proofs.ByKind.{of-hello, of-write, of-read}
+use Rattle.contents.specs.Rows.{valueEchoed, echoed, pecHeld, pecRight, aliveHeld, aliveRight, checkByte, settledCount, settled}
+use Rattle.readings.specs.declared.Refusal.the-variants.{Count}
+use Rattle.readings.specs.declared.Reading.the-variants.{Counted, Written, Values, Refused}
+
+pub positive : (k : ℕ) → (k ≡ 0 → ⊥) → 1 ≤ k
+positive k h = omega arith
+
+module _ (q : Question) (line : List ℕ) where
+  -- ---- 7 ECHO
+
+  rest : Bool
+  rest =
+      byForm (q .kind) (eqb (byteAt line 1) 0) (eqb (byteAt line 1) (q .reg) && valueEchoed q line) (eqb (byteAt line 1) (q .reg))
+
+  pub first-other : (byteAt line 0 ≡ shapeOf q .first → ⊥) → false ≡ echoed q line
+  unfolding echoed rest
+  first-other h = sym (ap (λ (t : Bool). t && rest) (ne-eqb (byteAt line 0) (shapeOf q .first) h))
+
+  module _ (first : byteAt line 0 ≡ shapeOf q .first) where
+    by-rest : (b : Bool) → rest ≡ b → b ≡ echoed q line
+    unfolding echoed rest
+    by-rest b e = sym (ap₂ _&&_ (eq-eqb (byteAt line 0) (shapeOf q .first) first) e)
+
+    pub hello-echo : q .kind ≡ 0 → eqb (byteAt line 1) 0 ≡ echoed q line
+    unfolding rest
+    hello-echo e = by-rest (eqb (byteAt line 1) 0) (of-hello (q .kind) _ _ _ e)
+
+    pub second-other : 1 ≤ q .kind → (byteAt line 1 ≡ q .reg → ⊥) → false ≡ echoed q line
+    unfolding rest
+    second-other lo h =
+        let other = ne-eqb (byteAt line 1) (q .reg) h in
+        ⊎-elim
+        (λ (w : q .kind < 3). by-rest false (of-write (q .kind) _ _ _ lo (omega arith) ∙ ap (λ (t : Bool). t && valueEchoed q line) other))
+        (λ r. by-rest false (of-read (q .kind) _ _ _ r ∙ other)) (below-or-not (q .kind) 3)
+
+    pub write-echo : 1 ≤ q .kind → q .kind ≤ 2 → byteAt line 1 ≡ q .reg → valueEchoed q line ≡ echoed q line
+    unfolding rest
+    write-echo lo hi e =
+        by-rest (valueEchoed q line)
+        (of-write (q .kind) _ _ _ lo hi ∙ ap (λ (t : Bool). t && valueEchoed q line) (eq-eqb (byteAt line 1) (q .reg) e))
+
+    pub read-echo : 3 ≤ q .kind → byteAt line 1 ≡ q .reg → true ≡ echoed q line
+    unfolding rest
+    read-echo lo e = by-rest true (of-read (q .kind) _ _ _ lo ∙ eq-eqb (byteAt line 1) (q .reg) e)
+
+  -- ---- 8 PEC and 9 ALIVE: the same for writes and reads
+
+  twice : {A : Type 0} (h x : A) → 1 ≤ q .kind → byForm (q .kind) h x x ≡ x
+  twice h x lo =
+      ⊎-elim (λ (w : q .kind < 3). of-write (q .kind) h x x lo (omega arith)) (λ r. of-read (q .kind) h x x r) (below-or-not (q .kind) 3)
+
+  pub hello-pec : q .kind ≡ 0 → true ≡ pecRight q line
+  unfolding pecRight
+  hello-pec e = sym (of-hello (q .kind) _ _ _ e)
+
+  pub other-pec : 1 ≤ q .kind → pecHeld q line ≡ pecRight q line
+  unfolding pecRight
+  other-pec lo = sym (twice true (pecHeld q line) lo)
+
+  pub hello-alive : q .kind ≡ 0 → true ≡ aliveRight q line
+  unfolding aliveRight
+  hello-alive e = sym (of-hello (q .kind) _ _ _ e)
+
+  held : Bool
+  held = eqb (byteAt line (shapeOf q .covered + 1)) ((q .seed + shapeOf q .acting) % 256)
+
+  pub no-alive : 1 ≤ q .kind → (q .alive ≡ 1 → ⊥) → true ≡ aliveRight q line
+  unfolding aliveRight held
+  no-alive lo h = sym (twice true (aliveHeld q line) lo ∙ ap (λ (t : Bool). cond t held true) (ne-eqb (q .alive) 1 h))
+
+  pub some-alive : 1 ≤ q .kind → q .alive ≡ 1
+      → eqb (byteAt line (shapeOf q .covered + 1)) ((q .seed + shapeOf q .acting) % 256) ≡ aliveRight q line
+  unfolding aliveRight held
+  some-alive lo e = sym (twice true (aliveHeld q line) lo ∙ ap (λ (t : Bool). cond t held true) (eq-eqb (q .alive) 1 e))
+
+  -- ---- 10 CHECK
+
+  pub no-check : q .kind ≤ 2 → 0 ≡ checkByte q line
+  unfolding checkByte
+  no-check hi =
+      ⊎-elim (λ e. sym (of-hello (q .kind) _ _ _ e)) (λ lo. sym (of-write (q .kind) _ _ _ lo hi)) (eq-zero-or-pos (q .kind))
+
+  pub read-check : 3 ≤ q .kind → byteAt line (shapeOf q .covered - 1) ≡ checkByte q line
+  unfolding checkByte
+  read-check lo = sym (of-read (q .kind) _ _ _ lo)
+
+  -- ---- 11 COUNT, and what is taken
+
+  pub hello-settled : q .kind ≡ 0 → settledCount (byteAt line 2) ≡ settled q line
+  unfolding settled
+  hello-settled e = sym (of-hello (q .kind) _ _ _ e)
+
+  pub write-settled : 1 ≤ q .kind → q .kind ≤ 2 → Written ≡ settled q line
+  unfolding settled
+  write-settled lo hi = sym (of-write (q .kind) _ _ _ lo hi)
+
+  pub read-settled : 3 ≤ q .kind → Values (shapeOf q .values) ≡ settled q line
+  unfolding settled
+  read-settled lo = sym (of-read (q .kind) _ _ _ lo)
+
+pub count-low : (b : ℕ) → b < 1 → Refused (Count b) ≡ settledCount b
+unfolding settledCount
+count-low b h = sym (ap (λ (t : Bool). cond (t && leb b 32) (Counted b) (Refused (Count b))) (lt-leb 1 b h))
+
+pub count-high : (b : ℕ) → 1 ≤ b → 32 < b → Refused (Count b) ≡ settledCount b
+unfolding settledCount
+count-high b lo hi = sym (ap₂ (λ (s t : Bool). cond (s && t) (Counted b) (Refused (Count b))) (le-leb 1 b lo) (lt-leb b 32 hi))
+
+pub count-right : (b : ℕ) → 1 ≤ b → b ≤ 32 → Counted b ≡ settledCount b
+unfolding settledCount
+count-right b lo hi = sym (ap₂ (λ (s t : Bool). cond (s && t) (Counted b) (Refused (Count b))) (le-leb 1 b lo) (le-leb b 32 hi))

@@ -1,0 +1,3 @@
+pub mod UnlessAt
+pub mod Accepted
+pub mod Agree

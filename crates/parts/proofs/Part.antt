@@ -1,0 +1,63 @@
+-- Where a device's register stands on an accepted line: inside it, so that the second call can hand out that part.
+use mathlib.Core.Path.{_≡_, refl, sym, ap, _∙_}
+use mathlib.Core.Bool.{Bool, true, false, cond, _&&_}
+use mathlib.Core.List.{List, []}
+use Prim.Native.Nat.{ℕ, _+_, _-_, _*_, _≤_, _<_}
+use native.Mathlib.Omega.{arith}
+use lib.Dec.{ltb, eqb, lit<}
+use lib.ListN.{length, take, drop}
+use borrow.Author.Tests.{ltb-true, le-ltb, lt-ltb}
+use Rattle.questions.specs.Question.{coversAt, covers, goodQuestion}
+use Rattle.questions.specs.Shape.{shapeAt, shapeOf}
+use Rattle.questions.specs.declared.question.Question.{Question}
+use Rattle.questions.proofs.ByKind.{each-kind}
+use Rattle.questions.proofs.Good.{good-kind, good-values, read-shape}
+use Rattle.parts.specs.Part.{orderOf, carried, partOf}
+use Rattle.judging.proofs.Accepted.{some-values}
+
+order-below : (q : Question) (a : ℕ) → goodQuestion q ≡ true → 3 ≤ q .kind → covers q a ≡ true → orderOf q a < shapeOf q .values
+unfolding covers orderOf shapeOf
+order-below q a good =
+    each-kind (λ (k : ℕ). 3 ≤ k → coversAt k q a ≡ true → cond (eqb k 3) a 0 < shapeAt k q .values)
+    (λ lo e. absurd (omega arith)) (λ lo e. absurd (omega arith)) (λ lo e. absurd (omega arith))
+    (λ lo e. ltb-true a (q .n) e) (λ lo e. lit< tt) (q .kind) (good-kind q good)
+
+module _ (q : Question) (line : List ℕ) (a : ℕ) (some : 0 < carried q line) (put-to : covers q a ≡ true) where
+  -- a device that the question is put to has its place among the values, and its four characters on the line
+  pub record Inside : Type 0 where
+    pub few : carried q line ≤ 32
+    pub order : orderOf q a < carried q line
+    pub within : 5 + 4 * (carried q line - 1 - orderOf q a) + 4 ≤ length line
+
+  pub inside : Inside
+  inside =
+      let c = some-values q line (shapeOf q .values) some in
+      let few = good-values q (c .taken .good) in
+      let order = order-below q a (c .taken .good) (c .read) put-to in
+      record {
+        few = omega (arith, c .values, few);
+        order = omega (arith, c .values, order);
+        within = omega (arith, c .values, order, c .taken .words, read-shape q (c .read) .words);
+      }
+
+  pub part-there : take 4 (drop (5 + 4 * (carried q line - 1 - orderOf q a)) line) ≡ partOf q line a
+  unfolding partOf
+  part-there =
+      sym (ap (λ (t : Bool). cond t (take 4 (drop (5 + 4 * (carried q line - 1 - orderOf q a)) line)) [])
+      (ap (λ (t : Bool). t && covers q a) (lt-ltb 0 (carried q line) some) ∙ put-to))
+
+pub no-part : (q : Question) (line : List ℕ) (a : ℕ) → carried q line ≡ 0 → [] ≡ partOf q line a
+unfolding partOf
+no-part q line a e =
+    sym (ap (λ (t : Bool). cond (t && covers q a) (take 4 (drop (5 + 4 * (carried q line - 1 - orderOf q a)) line)) [])
+    (le-ltb 0 (carried q line) (omega arith)))
+
+and-false : (t : Bool) → (t && false) ≡ false
+and-false true = refl
+and-false false = refl
+
+pub not-put-to : (q : Question) (line : List ℕ) (a : ℕ) → covers q a ≡ false → [] ≡ partOf q line a
+unfolding partOf
+not-put-to q line a e =
+    sym (ap (λ (t : Bool). cond t (take 4 (drop (5 + 4 * (carried q line - 1 - orderOf q a)) line)) [])
+    (ap (λ (t : Bool). ltb 0 (carried q line) && t) e ∙ and-false (ltb 0 (carried q line))))

@@ -1,0 +1,25 @@
+-- The second call: which part of a line carries a device's register.
+use mathlib.Core.Bool.{cond, _&&_}
+use mathlib.Core.List.{List, []}
+use Prim.Native.Nat.{ℕ, _+_, _-_, _*_}
+use lib.Dec.{ltb, eqb}
+use lib.ListN.{take, drop}
+use Rattle.questions.specs.Question.{readAll, covers}
+use Rattle.questions.specs.Shape.{shapeOf}
+use Rattle.questions.specs.declared.question.Question.{Question}
+use Rattle.readings.specs.Reading.{valuesTaken}
+use Rattle.judging.specs.Judge.{judgeOf}
+
+-- how many devices with values in the answer stand below this one
+unfoldable pub orderOf : Question → ℕ → ℕ
+orderOf q a = cond (eqb (q .kind) readAll) a 0
+
+-- how many values the second call finds: it needs no room
+abbrev pub carried : Question → List ℕ → ℕ
+carried q line = valuesTaken (judgeOf q line (shapeOf q .values))
+
+-- the second call: the four characters that carry a device's register; nothing of a line turned away, of another kind, or of a device
+-- that the question is not put to
+unfoldable pub partOf : Question → List ℕ → ℕ → List ℕ
+partOf q line a =
+    cond (ltb 0 (carried q line) && covers q a) (take 4 (drop (5 + 4 * (carried q line - 1 - orderOf q a)) line)) []

@@ -1,0 +1,46 @@
+// The second call: the part of an accepted line that carries a named device's register (document 01, below "Commands and answers").
+use judging::judge;
+use questions::question::Question;
+use questions::question::READALL;
+use questions::question::is_covered;
+use questions::question::shape_of;
+use readings::values_taken;
+ghost use mathlib.Core.Path.{_≡_};
+ghost use Rattle.parts.specs.Part.{orderOf, carried, partOf};
+
+// The part of the line whose four characters carry this device's register, where the line is accepted; else an empty part.
+pub fn register_part<'a>(q: Question, line: &'a [u16], device: u8) -> &'a [u16]
+    ensures { λ r. ⌜ now r ≡ partOf q (now (line .entry)) device ⌝ }
+{
+    let m = carried_by(q, line);
+    if m == 0 {
+        return &line[..0];
+    }
+    if !is_covered(q, device) {
+        return &line[..0];
+    }
+    let k = order_of(q, device);
+    let start = 5 + 4 * (m - 1 - k);
+    let end = start + 4;
+    &line[start..end]
+}
+
+// How many values an accepted line carries: room plays no part.
+fn carried_by(q: Question, line: &[u16]) -> usize
+    ensures { λ r. ⌜ r ≡ carried q (now (line .entry)) ⌝ }
+{
+    let s = shape_of(q);
+    let room = s.values;
+    values_taken(judge(q, line, room))
+}
+
+// How many devices with values in the answer stand below this one.
+fn order_of(q: Question, device: u8) -> usize
+    ensures { λ r. ⌜ r ≡ orderOf q device ⌝ }
+{
+    if q.kind == READALL {
+        device as usize
+    } else {
+        0
+    }
+}

@@ -1,0 +1,3 @@
+pub mod EqualLength
+pub mod Passing
+pub mod Agree

@@ -1,0 +1,86 @@
+-- The twin's round trip. For every good question and every chain of 1 to 32 devices, whatever their registers hold: the command that
+-- `write_command` writes, through all devices by `run_chain`, is the right answer for the registers as they stand; `read` accepts it and hands
+-- out each device's register in address order; after WRITEALL every device holds the value (register 0x00 excepted), after WRITEDEVICE
+-- exactly that one; reads and HELLOALL change no register. Of every answer that meets the three contracts, and so of the three functions.
+use mathlib.Core.Path.{_≡_, ap, ap₂, _∙_}
+use mathlib.Core.Bool.{Bool, true, cond}
+use mathlib.Core.List.{List}
+use Prim.Native.Nat.{ℕ, _*_, _≤_}
+use lib.Dec.{leb, eqb}
+use lib.ListN.{length}
+use borrow.Author.Tests.{leb-true, le-leb}
+use Rattle.ground.proofs.Test.{and-left, and-right}
+use Rattle.lines.specs.Write.{atFront}
+use Rattle.questions.specs.Question.{goodQuestion}
+use Rattle.questions.specs.Shape.{shapeOf}
+use Rattle.commands.specs.Command.{commandLine, commandOut, CommandPut}
+use Rattle.commands.specs.declared.Issued.{Issued}
+use Rattle.questions.specs.declared.question.Question.{Question}
+use Rattle.readings.specs.declared.Reading.{Reading}
+use Rattle.reader.specs.Read.{ReadDone}
+use Rattle.acceptance.specs.Answer.{Registers, Sendable}
+use Rattle.twin.specs.Memory.{isChain}
+use Rattle.twin.specs.Step.{Standing, standing, hops, steppedOf, outOf, memoryAfter, Done, ChainDone}
+use Rattle.twin.specs.declared.step.Stepped.{Stepped}
+use Rattle.twin.specs.declared.step.Stepped.the-variants.{Handed, Twin, Room}
+use Rattle.twin.proofs.Stepping.{chain-words}
+use Rattle.roundtrip.specs.Between.{held, broughtBack}
+use Rattle.roundtrip.proofs.RoundTrip.{right-answer}
+use Rattle.roundtrip.proofs.RegistersAfter.{held-after}
+use Rattle.promises.specs.Acceptance.{Accepted, With}
+use Rattle.promises.specs.Trip.{Trip}
+use Rattle.promises.proofs.Demand2.{always-then}
+
+-- what `write_command` leaves of a good question, where there is room
+pub command-written : (q : Question) (before after : List ℕ) (r : Issued) → CommandPut q before after r → goodQuestion q ≡ true
+    → length (commandLine q) ≤ length before → after ≡ atFront (commandLine q) before
+unfolding commandOut
+command-written q before after r done good room =
+    done .leaves ∙ ap₂ (λ (t u : Bool). cond t (cond u (atFront (commandLine q) before) before) before) good (le-leb (length (commandLine q)) (length before) room)
+
+-- a call that fits and has room
+module _ (before after : Standing) (out outAfter memoryLeft : List ℕ) (r : Stepped) (fits : Bool) (done : Done fits before after out outAfter memoryLeft r)
+    (good : fits ≡ true) (room : length (before .line) ≤ length out) where
+  enough : leb (length (before .line)) (length out) ≡ true
+  enough = le-leb (length (before .line)) (length out) room
+
+  says-handed : r ≡ Handed
+  unfolding steppedOf
+  says-handed = done .says ∙ ap₂ (λ (t u : Bool). cond t (cond u Handed Room) Twin) good enough
+
+  leaves-line : outAfter ≡ atFront (after .line) out
+  unfolding outOf
+  leaves-line = done .leaves ∙ ap₂ (λ (t u : Bool). cond t (cond u (atFront (after .line) out) out) out) good enough
+
+  leaves-memory : memoryLeft ≡ after .memory
+  unfolding memoryAfter
+  leaves-memory = done .remembers ∙ ap₂ (λ (t u : Bool). cond t (cond u (after .memory) (before .memory)) (before .memory)) good enough
+
+module _ (q : Question) (good : goodQuestion q ≡ true) (sends : Sendable q) (n : ℕ) (chain : 1 ≤ q .kind → q .n ≡ n) (memory : List ℕ)
+    (is-chain : isChain n (length memory) ≡ true) (words : Registers memory) where
+  least : 1 ≤ n
+  least = leb-true 1 n (and-left _ _ (and-left _ (eqb (length memory) (256 * n)) is-chain))
+
+  most : n ≤ 32
+  most = leb-true n 32 (and-right (leb 1 n) _ (and-left _ (eqb (length memory) (256 * n)) is-chain))
+
+  -- Through the chain.
+  pub round-trip : (out outAfter memoryLeft : List ℕ) (r : Stepped) → ChainDone n memory memoryLeft (commandLine q) out outAfter r
+      → length (commandLine q) ≤ length out → Trip q n memory memoryLeft out outAfter r
+  round-trip out outAfter memoryLeft r done room =
+      let start = standing memory (commandLine q) in
+      let end = hops n n start in
+      let left = leaves-memory start end out outAfter memoryLeft r _ done is-chain room in
+      record {
+        handed = says-handed start end out outAfter memoryLeft r _ done is-chain room;
+        answer = end .line;
+        right = right-answer q good sends n chain least most memory words;
+        stands = leaves-line start end out outAfter memoryLeft r _ done is-chain room;
+        holds = λ k i h. ap (λ (l : List ℕ). held l k i) left ∙ held-after q good sends n chain least most memory words (chain-words n (length memory) is-chain) k i h;
+      }
+
+  -- And back: the reader accepts what came of it, with the registers as they stood.
+  pub read-back : {out outAfter memoryLeft : List ℕ} {r : Stepped} (t : Trip q n memory memoryLeft out outAfter r) (before after : List ℕ) (reading : Reading)
+      → ReadDone q (t .answer) before after reading → shapeOf q .values ≤ length before → Accepted reading × With q (broughtBack q n memory) before after reading
+  read-back t before after reading done room =
+      always-then q (t .answer) before after reading done sends (broughtBack q n memory) (record { good = good; room = room; answer = t .right })

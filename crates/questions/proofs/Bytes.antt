@@ -1,0 +1,43 @@
+-- Laws of a command's bytes: the alive byte present or not, how many bytes the fill pairs are, and the command of each form.
+use mathlib.Core.Path.{_≡_, refl, ap, _∙_}
+use mathlib.Core.Bool.{Bool, cond}
+use mathlib.Core.List.{[], _∷_, _++_}
+use Prim.Native.Nat.{ℕ, zero, suc, _+_, _*_, _%_, _≤_, _<_}
+use native.Mathlib.Nat.{add-zero, mod-eq-of-lt}
+use native.Mathlib.Omega.{arith}
+use lib.ListN.{length}
+use borrow.Author.Tests.{eq-eqb, ne-eqb}
+use Rattle.questions.specs.Shape.{shapeOf}
+use Rattle.questions.specs.Bytes.{lowHigh, onWire, aliveByte, sealed, fillPairs, commandBytes}
+use Rattle.questions.specs.declared.question.Question.{Question}
+use Rattle.questions.proofs.ByKind.{of-hello, of-write, of-read}
+
+-- the alive byte of a command is the seed, where there is one
+pub alive-on : (q : Question) → q .alive ≡ 1 → q .seed < 256 → aliveByte q 0 ≡ q .seed ∷ []
+alive-on q e h =
+    ap (λ (t : Bool). cond t ((q .seed + 0) % 256 ∷ []) []) (eq-eqb (q .alive) 1 e)
+    ∙ ap (λ (s : ℕ). s ∷ []) (ap (λ (s : ℕ). s % 256) (add-zero (q .seed)) ∙ mod-eq-of-lt h)
+
+pub alive-off : (q : Question) (added : ℕ) → q .alive ≡ 0 → aliveByte q added ≡ []
+alive-off q added e =
+    ap (λ (t : Bool). cond t ((q .seed + added) % 256 ∷ []) []) (ne-eqb (q .alive) 1 (λ one. omega arith))
+
+pub length-pairs : (n : ℕ) → length (fillPairs n) ≡ 2 * n
+unfolding fillPairs
+length-pairs zero = refl
+length-pairs (suc n) = let h = length-pairs n in omega arith
+
+-- ---- the command of each form
+
+module _ (q : Question) where
+  pub hello-command : q .kind ≡ 0 → commandBytes q ≡ shapeOf q .first ∷ 0 ∷ 0 ∷ []
+  unfolding commandBytes
+  hello-command e = of-hello (q .kind) _ _ _ e
+
+  pub write-command : 1 ≤ q .kind → q .kind ≤ 2 → commandBytes q ≡ sealed q 0 (shapeOf q .first ∷ q .reg ∷ lowHigh (q .value))
+  unfolding commandBytes
+  write-command lo hi = of-write (q .kind) _ _ _ lo hi
+
+  pub read-command : 3 ≤ q .kind → commandBytes q ≡ sealed q 0 (shapeOf q .first ∷ q .reg ∷ 0 ∷ []) ++ fillPairs (shapeOf q .values)
+  unfolding commandBytes onWire
+  read-command lo = of-read (q .kind) _ _ _ lo

@@ -1,0 +1,7 @@
+mod Alike
+mod HeardBack
+mod Acting
+pub mod LineBetween
+pub mod RoundTrip
+pub mod RegistersAfter
+pub mod NothingByAccident

@@ -1,0 +1,106 @@
+-- Nothing happens by accident: a device acts on a line exactly where it is some command for it, as the devices before it would have left it;
+-- any other line passes unchanged, and no register of any device changes.
+use mathlib.Core.Path.{_≡_, refl, sym, ap, _∙_, subst}
+use mathlib.Core.Bool.{Bool, true, false}
+use mathlib.Core.Logic.{_⊎_, ⊎-elim}
+use mathlib.Core.List.{List, [], _∷_}
+use Prim.Native.Nat.{ℕ, _+_, _-_, _*_, _≤_, _<_}
+use native.Mathlib.Nat.{le-refl, eq-zero-or-pos}
+use native.Mathlib.Omega.{arith}
+use lib.Dec.{lit<}
+use lib.ListN.{length}
+use lib.Seq.{take-all}
+use Rattle.ground.specs.Sweep.{tabulated}
+use Rattle.ground.proofs.Sweep.{length-tabulated}
+use Rattle.remainder.specs.Turned.{Bytes}
+use Rattle.lines.specs.Line.{lineOf, byteAt}
+use Rattle.questions.specs.Bytes.{onWire}
+use Rattle.questions.specs.declared.question.Question.{Question}
+use Rattle.acceptance.specs.Answer.{Registers}
+use Rattle.acceptance.proofs.Wire.{bytes-cons, length-wire, wire-bytes, valueIn, wire-read}
+use Rattle.hearing.specs.Hear.{carried, plainly, heard}
+use Rattle.underway.specs.OnTheWay.{onTheWay, wireOf}
+use Rattle.passage.specs.Acting.{acts}
+use Rattle.hearing.proofs.Hearing.{heard-either, heard-good, heard-n, place-below}
+use Rattle.passage.proofs.Passing.{left-unchanged, nothing-stored}
+use Rattle.passage.proofs.EqualLength.{acts-place, acts-met}
+use Rattle.twin.specs.Step.{registersOf, withChange, Standing, hop}
+use Rattle.roundtrip.specs.Commands.{CommandFor}
+use Rattle.roundtrip.proofs.RoundTrip.{tabulated-registers}
+use Rattle.roundtrip.proofs.Acting.{met-is, heard-sends, wire-small, acts-on, hello-on}
+
+-- any two bytes for each of m places are m values on the wire
+module _ (wire : List ℕ) (small : Bytes wire) (m : ℕ) (size : length wire ≡ 2 * m) where
+  framed : List ℕ
+  framed = 0 ∷ 0 ∷ wire
+
+  framed-small : Bytes (0 ∷ 0 ∷ wire)
+  framed-small = bytes-cons 0 (0 ∷ wire) (lit< tt) (bytes-cons 0 wire (lit< tt) small)
+
+  wide : 2 + 2 * m ≤ length (0 ∷ 0 ∷ wire)
+  wide = omega arith
+
+  pub valuesOf : List ℕ
+  valuesOf = tabulated (valueIn (0 ∷ 0 ∷ wire) framed-small m wide) m (m - m)
+
+  pub values-number : length valuesOf ≡ m
+  unfolding valuesOf
+  values-number = length-tabulated (valueIn (0 ∷ 0 ∷ wire) framed-small m wide) m (m - m)
+
+  pub values-wire : wire ≡ onWire valuesOf
+  unfolding valuesOf
+  values-wire = sym (take-all (2 * m) wire (omega arith)) ∙ wire-read (0 ∷ 0 ∷ wire) framed-small m wide m (le-refl m)
+
+  pub values-registers : Registers valuesOf
+  unfolding valuesOf
+  values-registers =
+      let none : m - m ≡ 0 = omega arith in
+      let value = valueIn (0 ∷ 0 ∷ wire) framed-small m wide in
+      subst (λ (i : ℕ). Registers (tabulated value m i)) (sym none)
+      (tabulated-registers value m (λ k. let low = framed-small (2 + 2 * (m - 1 - k)) in let high = framed-small (2 + 2 * (m - 1 - k) + 1) in omega arith))
+
+module _ (n k : ℕ) (line : List ℕ) where
+  heard-own : heard n k line .device ≡ k
+  unfolding plainly
+  heard-own = heard-either n k line (λ (x : Question). x .device ≡ k) refl refl
+
+  -- What a device acts on is a command for it.
+  pub only-commands : acts n k line ≡ true → CommandFor n k line
+  only-commands e =
+      let q = heard n k line in
+      let m = carried (q .kind) k in
+      let place = acts-place n k line e in
+      let below = place-below n k place in
+      let wire = wireOf line m in
+      let small = wire-small n k line m in
+      let size = length-tabulated (byteAt line) (2 * m) 2 in
+      record {
+        question = q;
+        sent = heard-sends n k line;
+        put = record { good = heard-good n k line place; chain = λ some. heard-n n k line; within = below .0; most = below .1; to = λ one. heard-own };
+        values = valuesOf wire small m size;
+        number = values-number wire small m size;
+        registers = values-registers wire small m size;
+        is = acts-met n k line e ∙ met-is n k line ∙ ap (λ (w : List ℕ). lineOf (onTheWay q k 0 w)) (values-wire wire small m size);
+      }
+
+  -- And it acts on every command for it.
+  pub every-command : CommandFor n k line → acts n k line ≡ true
+  every-command c =
+      let q = c .question in
+      let wire = onWire (c .values) in
+      subst (λ (l : List ℕ). acts n k l ≡ true) (sym (c .is)) (⊎-elim
+      (λ (hello : q .kind ≡ 0). hello-on q n k (c .put) hello [] 0 0 wire wire .acted)
+      (λ (some : 1 ≤ q .kind). acts-on q n k (c .put) (c .sent) 0 wire (wire-bytes (c .values) (c .registers)) (length (c .values)) (length-wire (c .values)) some (c .number) [] .acted)
+      (eq-zero-or-pos (q .kind)))
+
+-- A line that is no command for device k leaves that device's step nothing to do.
+pub no-command-no-change : (n k : ℕ) (s : Standing) → (CommandFor n k (s .line) → ⊥) → (hop n k s .line ≡ s .line) × (hop n k s .memory ≡ s .memory)
+no-command-no-change n k s none = by-test (acts n k (s .line)) refl
+  where
+    by-test : (t : Bool) → acts n k (s .line) ≡ t → (hop n k s .line ≡ s .line) × (hop n k s .memory ≡ s .memory)
+    by-test true e = absurd (none (only-commands n k (s .line) e))
+    by-test false e = (
+      left-unchanged n k (registersOf (s .memory) k) (s .line) e,
+      ap (withChange (s .memory) k) (nothing-stored n k (registersOf (s .memory) k) (s .line) e),
+    )

@@ -1,0 +1,1 @@
+// The twin answers as the table says: laws only, in specs/ and proofs/.

@@ -1,0 +1,15 @@
+-- Nothing is left open: two answers that meet a function's contract, as its source states it, are the same.
+use mathlib.Core.Path.{sym, _∙_}
+use Rattle.ground.specs.Agree.{Settled}
+use Rattle.scanning.proofs.first_no_character.Reads as first-no-character
+use Rattle.scanning.proofs.is_framed.Reads as is-framed
+use Rattle.scanning.proofs.first_no_nibble.Reads as first-no-nibble
+
+pub first-no-character-settled : Settled first-no-character.Post
+first-no-character-settled l given r r′ left left′ p q = p ∙ sym q
+
+pub is-framed-settled : Settled is-framed.Post
+is-framed-settled l given r r′ left left′ p q = p ∙ sym q
+
+pub first-no-nibble-settled : Settled first-no-nibble.Post
+first-no-nibble-settled l given r r′ left left′ p q = p ∙ sym q

@@ -1,0 +1,3 @@
+pub mod FirstPlace
+pub mod Whole
+pub mod Agree

@@ -1,0 +1,34 @@
+-- `first_no_nibble` meets its contract: it scans the places between the ends, of which a line of one word or none has none.
+use mathlib.Core.Path.{_≡_, sym, ap, _∙_}
+use Prim.Native.Nat.{_-_}
+use native.Mathlib.Omega.{arith}
+use lib.ListN.{length}
+use Rattle.scanning.specs.Place.{testOf, firstFailing, firstNoNibble}
+use Rattle.scanning.specs.declared.Row.the-variants.{Manchester}
+use borrow.Author.Needs.{needs}
+use Rattle.scanning.proofs.first_no_nibble.Statement.{statement}
+use Rattle.scanning.proofs.first_no_nibble.Tie as tie
+
+returns : tie.Need-returns
+unfolding firstNoNibble firstFailing
+returns c =
+    let l = c .before .before .args .line .now in
+    let none : length l - 2 ≡ 0 = omega arith in
+    sym (ap (firstFailing (testOf Manchester) l 1) none)
+
+sub-first-failing : tie.Need-sub-first-failing
+sub-first-failing c = search needs
+
+first-failing-requires : tie.Need-first-failing-requires
+first-failing-requires c κs = search needs
+
+returns-2 : tie.Need-returns-2
+unfolding firstNoNibble
+returns-2 c =
+    let l = c .before .before .before .args .line .now in
+    let between : length l - 1 - 1 ≡ length l - 2 = omega arith in
+    c .first-failing .ensures ∙ ap (firstFailing (testOf Manchester) l 1) between
+
+pub first-no-nibble-spec : {M : Type 1} → statement M
+first-no-nibble-spec =
+    tie.close (tie.spec returns sub-first-failing first-failing-requires returns-2)

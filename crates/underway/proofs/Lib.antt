@@ -1,0 +1,5 @@
+mod Laying
+mod Compared
+mod TakingUp
+pub mod Way
+pub mod Agree

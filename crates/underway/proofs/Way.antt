@@ -1,0 +1,79 @@
+-- Laws of a command on its way: its bytes form by form, and its length, which no device changes.
+use mathlib.Core.Path.{_≡_, refl, sym, ap, _∙_}
+use mathlib.Core.Bool.{Bool, true, false, cond}
+use mathlib.Core.Logic.{⊎-elim}
+use mathlib.Core.List.{List, [], _∷_, _++_}
+use Prim.Native.Nat.{ℕ, _+_, _-_, _*_, _/_, _%_, _≤_, _<_}
+use native.Mathlib.Nat.{eq-zero-or-pos}
+use native.Mathlib.Omega.{arith}
+use lib.Dec.{eqb}
+use lib.ListN.{length, length-append}
+use Rattle.ground.proofs.Test.{below-or-not}
+use Rattle.pec.specs.Pec.{pecOf}
+use Rattle.questions.specs.Shape.{shapeOf}
+use Rattle.questions.specs.Bytes.{lowHigh, aliveByte, sealed, fillPairs, writeCovered}
+use Rattle.questions.specs.declared.question.Question.{Question}
+use Rattle.questions.proofs.ByKind.{of-hello, of-write, of-read}
+use Rattle.questions.proofs.Bytes.{length-pairs}
+use Rattle.underway.specs.OnTheWay.{onTheWay}
+
+-- the covered bytes of a read on its way
+abbrev pub readOnWay : Question → (wire : List ℕ) → List ℕ
+readOnWay q wire = shapeOf q .first ∷ q .reg ∷ (wire ++ (0 ∷ []))
+
+module _ (q : Question) (count added : ℕ) (wire : List ℕ) where
+  pub way-hello : q .kind ≡ 0 → onTheWay q count added wire ≡ shapeOf q .first ∷ 0 ∷ count ∷ []
+  unfolding onTheWay
+  way-hello e = of-hello (q .kind) _ _ _ e
+
+  pub way-write : 1 ≤ q .kind → q .kind ≤ 2 → onTheWay q count added wire ≡ sealed q added (writeCovered q)
+  unfolding onTheWay
+  way-write lo hi = of-write (q .kind) _ _ _ lo hi
+
+  pub way-read : 3 ≤ q .kind → onTheWay q count added wire ≡ sealed q added (readOnWay q wire) ++ fillPairs (shapeOf q .values - length wire / 2)
+  unfolding onTheWay
+  way-read lo = of-read (q .kind) _ _ _ lo
+
+-- ---- lengths
+
+module _ (q : Question) where
+  alive-length : (a b : ℕ) → length (aliveByte q a) ≡ length (aliveByte q b)
+  alive-length a b = either (eqb (q .alive) 1)
+    where
+      either : (t : Bool) → length (cond t ((q .seed + a) % 256 ∷ []) []) ≡ length (cond t ((q .seed + b) % 256 ∷ []) [])
+      either true = refl
+      either false = refl
+
+  alive-most : (a : ℕ) → length (aliveByte q a) ≤ 1
+  alive-most a = either (eqb (q .alive) 1)
+    where
+      either : (t : Bool) → length (cond t ((q .seed + a) % 256 ∷ []) []) ≤ 1
+      either true = omega arith
+      either false = omega arith
+
+  pub sealed-size : (a : ℕ) (covered : List ℕ) → length (sealed q a covered) ≡ length covered + 1 + length (aliveByte q a)
+  unfolding sealed
+  sealed-size a covered = omega (arith, length-append covered (pecOf covered ∷ aliveByte q a))
+
+  pub sealed-most : (a : ℕ) (covered : List ℕ) → length (sealed q a covered) ≤ length covered + 2
+  sealed-most a covered = omega (arith, sealed-size a covered, alive-most a)
+
+  pub read-size : (a : ℕ) (w : List ℕ) → length (sealed q a (readOnWay q w) ++ fillPairs (shapeOf q .values - length w / 2))
+      ≡ 4 + length w + length (aliveByte q a) + 2 * (shapeOf q .values - length w / 2)
+  read-size a w =
+      let pairs = fillPairs (shapeOf q .values - length w / 2) in
+      omega (arith, length-append (sealed q a (readOnWay q w)) pairs, sealed-size a (readOnWay q w), length-append w (0 ∷ []), length-pairs (shapeOf q .values - length w / 2))
+
+  -- a device hands on a line of equal length: its own value takes the place of a fill pair
+  pub equal-length : (count count′ added added′ own m : ℕ) (wire : List ℕ) → length wire ≡ 2 * m → (3 ≤ q .kind → m < shapeOf q .values)
+      → length (onTheWay q count′ added′ (lowHigh own ++ wire)) ≡ length (onTheWay q count added wire)
+  equal-length count count′ added added′ own m wire size room =
+      let more = lowHigh own ++ wire in
+      ⊎-elim
+      (λ (low : q .kind < 3). ⊎-elim
+      (λ e. ap length (way-hello q count′ added′ more e) ∙ sym (ap length (way-hello q count added wire e)))
+      (λ lo. omega (arith, ap length (way-write q count′ added′ more lo (omega arith)), ap length (way-write q count added wire lo (omega arith)), sealed-size added′ (writeCovered q), sealed-size added (writeCovered q), alive-length added added′))
+      (eq-zero-or-pos (q .kind)))
+      (λ lo. let less = room lo in
+      omega (arith, ap length (way-read q count′ added′ more lo), ap length (way-read q count added wire lo), read-size added′ more, read-size added wire, alive-length added added′))
+      (below-or-not (q .kind) 3)

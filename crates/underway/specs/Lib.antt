@@ -1,0 +1,3 @@
+pub mod OnTheWay
+pub mod Lay
+pub mod TakeUp

@@ -1,0 +1,89 @@
+// A command on its way along the chain: held to what the devices before would have left, and handed on (document 01, "The twin").
+mod compare;
+mod lay;
+
+use compare::is_line_of;
+use lay::lay;
+use lay::push_carried;
+use lay::push_value;
+use questions::question::Question;
+use questions::question::is_good;
+use writing::put_line;
+ghost use mathlib.Core.Path.{_≡_};
+ghost use mathlib.Core.Bool.{true};
+ghost use mathlib.Core.List.{_++_};
+ghost use Prim.Native.Nat.{suc, _+_, _*_, _≤_, _<_};
+ghost use lib.ListN.{length};
+ghost use Rattle.ground.specs.Same.{same};
+ghost use Rattle.lines.specs.Line.{lineOf};
+ghost use Rattle.writing.specs.PutLine.{outOf};
+ghost use Rattle.questions.specs.Question.{goodQuestion};
+ghost use Rattle.questions.specs.Bytes.{lowHigh};
+ghost use Rattle.underway.specs.Lay.{Holds};
+ghost use Rattle.underway.specs.OnTheWay.{onTheWay, wireOf};
+ghost use Rattle.underway.specs.TakeUp.{canBe, TakenUp};
+
+fn buffer() -> [u8; 136]
+    ensures { λ r. ⌜ length r ≡ 136 ⌝ }
+{
+    [0; 136]
+}
+
+fn can_be(q: Question, device: u8, m: usize) -> bool
+    ensures { λ r. ⌜ r ≡ canBe q device m ⌝ }
+{
+    if !is_good(q) {
+        return false;
+    }
+    if 32 <= m {
+        return false;
+    }
+    device < 32
+}
+
+// Whether a line is the question's command as the devices before this one left it.
+fn is_met(q: Question, device: u8, wire: &[u8], line: &[u16]) -> bool
+    requires { ⌜ (goodQuestion q ≡ true) × (length (now wire) ≤ 64) ⌝ }
+    ensures { λ r. ⌜ r ≡ same (now (line .entry)) (lineOf (onTheWay q device 0 (now (wire .entry)))) ⌝ }
+{
+    let mut bytes = buffer();
+    let end = lay(q, device, 0, wire, &mut bytes);
+    is_line_of(line, &bytes[..end])
+}
+
+// The command as this device hands it on, in the line's place.
+fn hand(q: Question, device: u8, wire: &[u8], line: &mut [u16])
+    requires { ⌜ (goodQuestion q ≡ true) × (length (now wire) ≤ 64) × (device < 32) ⌝ }
+    ensures { λ _. ⌜ now (line .exit) ≡ outOf (onTheWay q (suc device) 1 (now (wire .entry))) (now (line .entry)) ⌝ }
+{
+    let mut bytes = buffer();
+    let end = lay(q, device + 1, 1, wire, &mut bytes);
+    put_line(&bytes[..end], line);
+}
+
+// The device's own value, then the values that stand on the line.
+fn gather(own: u16, line: &[u16], m: usize, wire: &mut [u8]) -> usize
+    requires { ⌜ (2 * m + 2 ≤ length (now wire)) × (m < 32) ⌝ }
+    ensures { λ r. ⌜ Holds (now (wire .exit)) r (lowHigh own ++ wireOf (now (line .entry)) m) ⌝ }
+{
+    let at = push_value(wire, 0, own);
+    push_carried(wire, at, line, 2 * m)
+}
+
+// Where the line is the question's command, as the devices before this one left it with m values, this device hands it on with its own value.
+// Any other line stays as it was.
+pub fn take_up(q: Question, device: u8, own: u16, m: usize, line: &mut [u16]) -> bool
+    ensures { λ r. ⌜ TakenUp q device own m (now (line .entry)) (now (line .exit)) r ⌝ }
+{
+    if !can_be(q, device, m) {
+        return false;
+    }
+    let mut wire = buffer();
+    let end = gather(own, line, m, &mut wire);
+    let others = 2;
+    if !is_met(q, device, &wire[others..end], line) {
+        return false;
+    }
+    hand(q, device, &wire[..end], line);
+    true
+}
