@@ -1,16 +1,16 @@
 -- Acceptance means the table, one way: a line that is accepted is the line of a right answer, and what is handed out is what that answer
 -- carries.
-use mathlib.Core.Path.{_≡_, refl, sym, ap, ap₂, _∙_, subst}
+use mathlib.Core.Path.{_≡_, refl, sym, ap, ap₂, _∙_}
 use mathlib.Core.Bool.{Bool, true, false, cond, _&&_}
 use mathlib.Core.Logic.{⊎-elim}
 use mathlib.Core.List.{List, [], _∷_, _++_}
-use Prim.Native.Nat.{ℕ, zero, suc, _+_, _-_, _*_, _/_, _%_, _≤_, _<_}
+use Prim.Native.Nat.{ℕ, suc, _+_, _-_, _*_, _/_, _%_, _≤_, _<_}
 use native.Mathlib.Nat.{eq-zero-or-pos, le-refl}
 use native.Mathlib.Omega.{arith}
 use lib.Dec.{eqb, leb, lit<}
 use lib.ListN.{List·getD-eq-default, length, getD, take, drop, length-append, length-drop}
 use lib.Seq.{take-suc, getD-drop}
-use borrow.Author.Tests.{eqb-true, eq-eqb, leb-true}
+use borrow.Author.Tests.{eqb-true, leb-true}
 use Rattle.ground.specs.Sweep.{tabulated}
 use Rattle.ground.proofs.Test.{and-left, and-right, below-or-not}
 use Rattle.ground.proofs.Sweep.{length-tabulated, tabulated-at, tabulated-same}
@@ -21,11 +21,11 @@ use Rattle.lines.proofs.Line.{length-bytes, bytes-at, bytes-bytes, byte-lt}
 use Rattle.scanning.proofs.Whole.{own-bytes}
 use Rattle.questions.specs.Question.{byForm}
 use Rattle.questions.specs.Shape.{shapeOf}
-use Rattle.questions.specs.Bytes.{lowHigh, onWire, sealed, writeCovered, readCovered, answerBytes}
+use Rattle.questions.specs.Bytes.{onWire, sealed, writeCovered, readCovered, answerBytes}
 use Rattle.questions.specs.declared.question.Question.{Question}
 use Rattle.questions.proofs.ByKind.{of-hello, of-write, of-read}
 use Rattle.questions.proofs.Good.{good-kind, good-alive, hello-shape, write-shape, read-shape}
-use Rattle.contents.specs.Rows.{valueEchoed, echoed, pecHeld, pecRight, aliveHeld, aliveRight, checkByte, settledCount, settled}
+use Rattle.contents.specs.Rows.{valueEchoed, echoed, settledCount, settled}
 use Rattle.readings.specs.Reading.{numberOf, valuesTaken}
 use Rattle.judging.specs.Judge.{judgeOf}
 use Rattle.readings.specs.declared.Refusal.the-variants.{Count}
@@ -33,7 +33,7 @@ use Rattle.readings.specs.declared.Reading.the-variants.{Counted, Written, Valu
 use Rattle.reader.specs.Read.{valueAt, valuesOn}
 use Rattle.judging.proofs.Accepted.{Taken, taken-settles, accepted-takes}
 use Rattle.contents.proofs.RowLaws.{other-pec, some-alive, read-check, hello-settled, write-settled, read-settled, count-right}
-use Rattle.acceptance.specs.Answer.{Registers, OneCount, AllValues, Fitting, AnswerTo, Answered, readingOf, handedOut}
+use Rattle.acceptance.specs.Answer.{Registers, Fitting, Answered}
 use Rattle.acceptance.specs.Answer.Fitting.{hello, write, read}
 use Rattle.acceptance.proofs.Wire.{length-wire, valueIn, wire-read}
 use Rattle.acceptance.proofs.Sealed.{is-sealed}

@@ -1,19 +1,18 @@
 -- Acceptance means the table, the other way: the line of a right answer is accepted, with that answer's reading and values.
 use mathlib.Core.Path.{_≡_, refl, sym, ap, ap₂, _∙_, subst}
-use mathlib.Core.Bool.{Bool, true, false, cond, _&&_}
+use mathlib.Core.Bool.{true, _&&_}
 use mathlib.Core.List.{List, [], _∷_, _++_}
 use Prim.Native.Nat.{ℕ, zero, suc, _+_, _-_, _*_, _/_, _%_, _≤_, _<_}
 use native.Mathlib.Nat.{zero-add}
 use native.Mathlib.Omega.{arith}
-use lib.Dec.{eqb, lit<}
+use lib.Dec.{lit<}
 use lib.ListN.{length, getD, take, length-append, List·getD-append}
 use lib.Seq.{ext-getD, getD-at}
 use borrow.Author.Tests.{eq-eqb}
-use Rattle.ground.specs.Sweep.{tabulated}
 use Rattle.ground.proofs.Sweep.{length-tabulated, tabulated-at}
 use Rattle.remainder.specs.Turned.{Bytes}
 use Rattle.pec.specs.Pec.{pecOf}
-use Rattle.lines.specs.Line.{lineOf, byteAt, bytesOf, pecOver}
+use Rattle.lines.specs.Line.{lineOf, byteAt, pecOver}
 use Rattle.lines.proofs.Line.{length-line, byte-of-line, bytes-of-line}
 use Rattle.scanning.proofs.Whole.{line-passes}
 use Rattle.questions.specs.Question.{goodQuestion}
@@ -23,13 +22,13 @@ use Rattle.questions.specs.declared.question.Question.{Question}
 use Rattle.questions.proofs.ByKind.{of-hello, of-write, of-read}
 use Rattle.questions.proofs.Good.{good-alive, good-first, hello-shape, write-shape, read-shape}
 use Rattle.readings.specs.Reading.{valuesTaken}
-use Rattle.contents.specs.Rows.{valueEchoed, echoed, pecRight, aliveRight, checkByte, settledCount}
+use Rattle.contents.specs.Rows.{echoed, pecRight, aliveRight, checkByte, settledCount}
 use Rattle.judging.specs.Judge.{judgeOf}
 use Rattle.reader.specs.Read.{valueAt, valuesOn}
 use Rattle.readings.specs.declared.Reading.the-variants.{Counted, Written, Values}
 use Rattle.judging.proofs.Accepted.{Taken, taken-settles}
 use Rattle.contents.proofs.RowLaws
-use Rattle.acceptance.specs.Answer.{Registers, OneCount, AllValues, Fitting, AnswerTo, Answered, readingOf, handedOut, Sendable}
+use Rattle.acceptance.specs.Answer.{Registers, AllValues, Fitting, AnswerTo, readingOf, handedOut, Sendable}
 use Rattle.acceptance.specs.Answer.Fitting.{hello, write, read}
 use Rattle.acceptance.proofs.Wire.{bytes-append, bytes-cons, no-bytes, two-bytes, length-wire, wire-at, wire-bytes}
 use Rattle.acceptance.proofs.Sealed.{length-sealed, sealed-front, sealed-pec, sealed-alive, sealed-bytes}

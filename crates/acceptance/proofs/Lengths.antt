@@ -1,14 +1,13 @@
 -- Command and answer have equal length in words: 8 for HELLOALL, 12 or 14 for writes, 14 or 16 for READDEVICE, at most 140 for READALL.
-use mathlib.Core.Path.{_≡_, refl, sym, ap, _∙_}
+use mathlib.Core.Path.{_≡_, sym, ap, _∙_}
 use mathlib.Core.Bool.{true}
 use mathlib.Core.Logic.{⊎-elim}
-use mathlib.Core.List.{List, [], _∷_, _++_}
-use Prim.Native.Nat.{ℕ, zero, suc, _+_, _*_, _≤_, _<_}
+use mathlib.Core.List.{List, [], _∷_}
+use Prim.Native.Nat.{ℕ, _+_, _*_, _≤_, _<_}
 use native.Mathlib.Nat.{eq-zero-or-pos}
 use native.Mathlib.Omega.{arith}
 use lib.ListN.{length, length-append}
 use Rattle.ground.proofs.Test.{below-or-not}
-use Rattle.lines.specs.Line.{lineOf}
 use Rattle.lines.proofs.Line.{length-line}
 use Rattle.questions.specs.Question.{goodQuestion}
 use Rattle.questions.specs.Shape.{shapeOf}

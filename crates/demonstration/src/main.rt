@@ -11,12 +11,12 @@ use questions::question::WRITEALL;
 use questions::question::WRITEDEVICE;
 use reader::read::read;
 use readings::Reading;
+use registers::power_on;
+use registers::powered_number;
 use show::bytes_on;
 use show::number;
 use show::text;
 use show::values;
-use twin::memory::power_on;
-use twin::memory::powered_number;
 use twin::step::run_chain;
 use twin::step::stepped_number;
 ghost use mathlib.Core.Path.{_≡_};
@@ -41,10 +41,11 @@ fn registers() -> [u16; 768]
     [0; 768]
 }
 
-fn line_of_words() -> [u16; 28]
-    ensures { λ r. ⌜ 28 ≡ length r ⌝ }
+// A READALL of three devices has 24 words, and no command here has more.
+fn line_of_words() -> [u16; 24]
+    ensures { λ r. ⌜ 24 ≡ length r ⌝ }
 {
-    [0; 28]
+    [0; 24]
 }
 
 fn room_for_values() -> [u16; 3]
@@ -53,7 +54,7 @@ fn room_for_values() -> [u16; 3]
     [0; 3]
 }
 
-fn accepted(reading: Reading, out: &[u16]) {
+fn say(reading: Reading, out: &[u16]) {
     match reading {
         Reading::Counted(count) => {
             text(b"accepted: ");
@@ -82,7 +83,7 @@ fn read_back(q: Question, answer: &[u16]) {
     let mut out = room_for_values();
     let reading = read(q, answer, &mut out);
     text(b"  reader    ");
-    accepted(reading, &out);
+    say(reading, &out);
 }
 
 // Noise: bits of the sixth character turn over.
@@ -138,7 +139,7 @@ fn words_of(issued: Issued) -> usize {
 fn main() {
     let mut memory = registers();
     text(
-        b"A bench of three devices, rehearsed on the twin. The alive byte is on and starts at FE.\n\n",
+        b"A bench of three devices, rehearsed on the twin. The alive byte is on and starts at fe.\n\n",
     );
     let powered = power_on(3, &mut memory);
     if powered_number(powered) != 0 {
@@ -153,7 +154,7 @@ fn main() {
         &mut memory,
     );
     bench(
-        b"WRITEALL. 000F to register 12 of every device.\n",
+        b"WRITEALL. 000f to register 12 of every device.\n",
         ask(WRITEALL, 0, 0x000F),
         0,
         &mut memory,
@@ -165,8 +166,8 @@ fn main() {
         &mut memory,
     );
     bench(
-        b"WRITEDEVICE. 0000 to register 12 of device 1; noise turns over two bits of a character once it is sent.\n",
-        ask(WRITEDEVICE, 1, 0x0000),
+        b"WRITEDEVICE. 0003 to register 12 of device 1; noise turns over two bits of a character once it is sent.\n",
+        ask(WRITEDEVICE, 1, 0x0003),
         0x006,
         &mut memory,
     );
@@ -180,6 +181,18 @@ fn main() {
         b"\nNumber 7 is ECHO: what came back is not what was asked. The noise made the command's PEC wrong,\n",
     );
     text(
-        b"so device 1 let it pass and kept 000F. Only a read after the write tells what happened.\n",
+        b"so device 1 let it pass and kept 000f. Only a read after the write tells what happened.\n",
+    );
+    bench(
+        b"WRITEDEVICE. The same once more, with a quiet line.\n",
+        ask(WRITEDEVICE, 1, 0x0003),
+        0,
+        &mut memory,
+    );
+    bench(
+        b"READALL. What does register 12 hold in the end?\n",
+        ask(READALL, 0, 0),
+        0,
+        &mut memory,
     );
 }

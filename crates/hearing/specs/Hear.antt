@@ -27,7 +27,8 @@ kindHeard k first =
 abbrev pub carried : (kind k : ℕ) → ℕ
 carried kind k = cond (eqb kind readAll) k 0
 
--- where the alive byte stands: directly after the PEC, which follows four bytes of a write, and a read's three and its values
+-- where the alive byte stands: directly after the PEC, which follows four bytes of a write, and a read's three and its values; HELLOALL,
+-- which has none, is not asked
 abbrev pub alivePlace : (kind k : ℕ) → ℕ
 alivePlace kind k = cond (leb kind writeDevice) 5 (4 + 2 * carried kind k)
 

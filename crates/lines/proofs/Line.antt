@@ -1,18 +1,17 @@
 -- Laws of a line written from bytes: its length, its words and its bytes.
-use mathlib.Core.Path.{_≡_, refl, sym, ap, ap₂, _∙_, subst}
+use mathlib.Core.Path.{_≡_, refl, ap, ap₂, _∙_, subst}
 use mathlib.Core.Logic.{⊎-elim}
-use mathlib.Core.List.{List, [], _∷_, _++_}
+use mathlib.Core.List.{List, [], _∷_}
 use Prim.Native.Nat.{ℕ, zero, suc, min, _+_, _*_, _/_, _%_, _≤_, _<_}
 use native.Mathlib.Nat.{not-suc-le-zero, zero-add}
 use native.Mathlib.Numerals.{one-add}
 use native.Mathlib.Omega.{arith}
 use lib.ListN.{length, getD, take, length-take, length-append, List·getD-append, List·getD-eq-default}
 use lib.Seq.{ext-getD, getD-at, getD-take}
-use Rattle.ground.specs.Sweep.{tabulated}
 use Rattle.ground.proofs.Test.{below-or-not}
 use Rattle.ground.proofs.Sweep.{tabulated-at, length-tabulated}
 use Rattle.remainder.specs.Turned.{Bytes}
-use Rattle.characters.specs.Character.{preamble, stop}
+use Rattle.characters.specs.Character.{stop}
 use Rattle.characters.specs.Nibble.{nibbleWord, trueBits}
 use Rattle.characters.proofs.Nibble.{true-bits-of, true-bits-lt}
 use Rattle.lines.specs.Line.{charactersOf, lineOf, byteAt, byteCount, bytesOf}

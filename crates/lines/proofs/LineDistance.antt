@@ -1,8 +1,8 @@
 -- Two lines of bytes differ in exactly twice as many line bits as the bytes differ in bits.
 use mathlib.Core.Path.{_≡_, refl, sym, ap, ap₂, _∙_}
-use mathlib.Core.List.{List, [], _∷_, _++_}
-use Prim.Native.Nat.{ℕ, suc, _+_, _*_, _/_, _%_, _^_, _<_}
-use native.Mathlib.Nat.{suc-inj, mod-lt}
+use mathlib.Core.List.{List, [], _∷_}
+use Prim.Native.Nat.{ℕ, suc, _+_, _*_, _/_, _%_, _<_}
+use native.Mathlib.Nat.{suc-inj}
 use native.Mathlib.Omega.{arith}
 use lib.Bits.{bitXor, xor-block, xor-lt}
 use lib.Count.{ones, ones-cat}
@@ -11,7 +11,6 @@ use lib.Pow.{split}
 use Rattle.remainder.specs.Turned.{distance, Bytes}
 use Rattle.remainder.proofs.Turned.{distance-self, distance-append}
 use Rattle.characters.specs.Character.{preamble, stop}
-use Rattle.characters.specs.Nibble.{nibbleWord}
 use Rattle.characters.proofs.Nibble.{word-distance}
 use Rattle.lines.specs.Line.{charactersOf, lineOf}
 use Rattle.lines.proofs.Line.{length-characters}

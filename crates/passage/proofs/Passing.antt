@@ -1,20 +1,25 @@
 -- One device's step: what its two ways through leave.
 use mathlib.Core.Path.{_≡_, sym, ap, ap₂, _∙_}
 use mathlib.Core.Bool.{Bool, true, false, cond, _&&_}
+use mathlib.Core.Logic.{⊎-elim}
 use mathlib.Core.List.{List, _++_, append-nil}
 use Prim.Native.Nat.{ℕ, _≤_, _<_}
 use native.Mathlib.Omega.{arith}
+use lib.Dec.{ltb}
 use lib.ListN.{length, getD, drop-of-length-le}
-use borrow.Author.Tests.{le-leb, lt-ltb}
+use borrow.Author.Tests.{ne-eqb, le-leb, lt-leb, lt-ltb}
+use Rattle.ground.proofs.Test.{below-or-not}
 use Rattle.ground.specs.Same.{same}
 use Rattle.lines.specs.Line.{lineOf}
 use Rattle.lines.specs.Write.{atFront}
 use Rattle.writing.specs.PutLine.{outOf}
 use Rattle.questions.specs.Question.{goodQuestion}
+use Rattle.questions.specs.Shape.{shapeOf}
+use Rattle.questions.proofs.Good.{good-kind}
 use Rattle.questions.specs.declared.question.Question.{Question}
 use Rattle.hearing.specs.Hear.{isPlace, carried, heard}
-use Rattle.hearing.proofs.Hearing.{carried-le, heard-good, place-below}
-use Rattle.underway.specs.TakeUp.{canBe, metBytes, handedBytes, isUp}
+use Rattle.hearing.proofs.Hearing.{heard-good, heard-n, room-for-one, place-below}
+use Rattle.underway.specs.TakeUp.{mayCarry, possible, metBytes, handedBytes, isMet}
 use Rattle.passage.specs.Acting.{before, met, acts, handed, handedOn}
 use Rattle.passage.specs.Pass.{changeAsked, changeOf, Passed}
 use Rattle.passage.specs.declared.pass.Change.{Change}
@@ -47,18 +52,32 @@ module _ (n k : ℕ) (registers line : List ℕ) where
   unfolding acts
   no-place e = ap (λ (t : Bool). t && same line (met n k line)) e
 
-  -- what a device of the chain hears is within its bounds
-  pub can-be : (q : Question) → q ≡ heard n k line → (m : ℕ) → m ≡ carried (q .kind) k → isPlace n k ≡ true → canBe q k m ≡ true
-  can-be q is m values place =
+  -- there is room for the value of the device
+  may-carry : (q : Question) → q ≡ heard n k line → (m : ℕ) → m ≡ carried (q .kind) k → isPlace n k ≡ true → mayCarry q m ≡ true
+  may-carry q is m values place =
+      let good : goodQuestion q ≡ true = ap goodQuestion is ∙ heard-good n k line place in
+      let count : q .n ≡ n = ap (λ (x : Question). x .n) is ∙ heard-n n k line in
+      ⊎-elim
+      (λ (low : q .kind < 3).
+      let few : q .kind ≤ 2 = omega arith in
+      let none : m ≡ 0 = values ∙ ap (λ (t : Bool). cond t k 0) (ne-eqb (q .kind) 3 (λ e. absurd (omega arith))) in
+      ap₂ (λ (x : ℕ) (t : Bool). ltb x (cond t 1 (shapeOf q .values))) none (le-leb (q .kind) 2 few))
+      (λ (reads : 3 ≤ q .kind).
+      let room = room-for-one q k (good-kind q good) (omega (arith, count, place-below n k place .0)) reads in
+      ap (λ (t : Bool). ltb m (cond t 1 (shapeOf q .values))) (lt-leb (q .kind) 2 reads) ∙ lt-ltb m (shapeOf q .values) (omega (arith, values)))
+      (below-or-not (q .kind) 3)
+
+  -- what a device of the chain hears is a possible command
+  pub is-possible : (q : Question) → q ≡ heard n k line → (m : ℕ) → m ≡ carried (q .kind) k → isPlace n k ≡ true → possible q k m ≡ true
+  is-possible q is m values place =
       let below = place-below n k place in
-      let few : m < 32 = omega (arith, values, carried-le (q .kind) k, below .0, below .1) in
       let here : k < 32 = omega (arith, below .0, below .1) in
-      ap₂ (λ (a b : Bool). a && b) (ap₂ (λ (a b : Bool). a && b) (ap goodQuestion is ∙ heard-good n k line place) (lt-ltb m 32 few)) (lt-ltb k 32 here)
+      ap₂ (λ (a b : Bool). a && b) (ap₂ (λ (a b : Bool). a && b) (ap goodQuestion is ∙ heard-good n k line place) (may-carry q is m values place)) (lt-ltb k 32 here)
 
   -- the test that the device makes
-  module _ (q : Question) (is : q ≡ heard n k line) (m : ℕ) (values : m ≡ carried (q .kind) k) (place : isPlace n k ≡ true) (can : canBe q k m ≡ true) where
-    pub acts-by : isUp q k m line ≡ acts n k line
-    unfolding isUp acts met
+  module _ (q : Question) (is : q ≡ heard n k line) (m : ℕ) (values : m ≡ carried (q .kind) k) (place : isPlace n k ≡ true) (can : possible q k m ≡ true) where
+    pub acts-by : isMet q k m line ≡ acts n k line
+    unfolding isMet acts met
     acts-by =
         ap (λ (t : Bool). t && same line (lineOf (metBytes q k m line))) can ∙ ap (λ (x : ℕ). same line (lineOf (metBytes q k x line))) values
         ∙ ap (λ (x : Question). same line (lineOf (metBytes x k (carried (x .kind) k) line))) is

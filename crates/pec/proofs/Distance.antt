@@ -16,7 +16,7 @@ use Rattle.ground.specs.Sweep.{every}
 use Rattle.ground.proofs.Test.{and-left, and-right, or-cases}
 use Rattle.ground.proofs.Sweep.{swept}
 use Rattle.remainder.specs.Register.{run, times}
-use Rattle.remainder.specs.Turned.{turned, weight, distance, Bytes}
+use Rattle.remainder.specs.Turned.{turned, weight, Bytes}
 use Rattle.remainder.proofs.Xor.{xor-zero-same}
 use Rattle.remainder.proofs.Linear.{run-linear}
 use Rattle.remainder.proofs.Turned.{some-bit, no-distance, distance-is, length-turned, turned-bytes}

@@ -18,10 +18,10 @@ use Rattle.readings.specs.declared.Reading.{Reading}
 use Rattle.readings.specs.declared.Reading.the-variants.{Counted, Written, Values, Refused}
 use Rattle.reader.specs.Read.{valuesOn, ReadDone}
 use Rattle.ground.specs.Sweep.{tabulated}
-use Rattle.twin.specs.Memory.{isChain, fresh, poweredOf, memoryOf, PoweredOn, poweredNumber}
+use Rattle.registers.specs.Memory.{isChain, fresh, poweredOf, memoryOf, PoweredOn, poweredNumber}
 use Rattle.twin.specs.Step.{Standing, steppedOf, outOf, memoryAfter, Done, steppedNumber}
-use Rattle.twin.specs.declared.memory.Powered.{Powered}
-use Rattle.twin.specs.declared.memory.Powered.the-variants as powered
+use Rattle.registers.specs.declared.Powered.{Powered}
+use Rattle.registers.specs.declared.Powered.the-variants as powered
 use Rattle.twin.specs.declared.step.Stepped.{Stepped}
 use Rattle.twin.specs.declared.step.Stepped.the-variants as stepped
 use Rattle.promises.specs.Damage.{TurnedAway}

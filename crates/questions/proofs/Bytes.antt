@@ -1,26 +1,36 @@
 -- Laws of a command's bytes: the alive byte present or not, how many bytes the fill pairs are, and the command of each form.
 use mathlib.Core.Path.{_≡_, refl, ap, _∙_}
 use mathlib.Core.Bool.{Bool, cond}
-use mathlib.Core.List.{[], _∷_, _++_}
+use mathlib.Core.List.{List, [], _∷_, _++_}
 use Prim.Native.Nat.{ℕ, zero, suc, _+_, _*_, _%_, _≤_, _<_}
 use native.Mathlib.Nat.{add-zero, mod-eq-of-lt}
 use native.Mathlib.Omega.{arith}
-use lib.ListN.{length}
+use lib.ListN.{length, length-append}
+use Rattle.pec.specs.Pec.{pecOf}
 use borrow.Author.Tests.{eq-eqb, ne-eqb}
 use Rattle.questions.specs.Shape.{shapeOf}
 use Rattle.questions.specs.Bytes.{lowHigh, onWire, aliveByte, sealed, fillPairs, commandBytes}
 use Rattle.questions.specs.declared.question.Question.{Question}
 use Rattle.questions.proofs.ByKind.{of-hello, of-write, of-read}
 
--- the alive byte of a command is the seed, where there is one
-pub alive-on : (q : Question) → q .alive ≡ 1 → q .seed < 256 → aliveByte q 0 ≡ q .seed ∷ []
-alive-on q e h =
-    ap (λ (t : Bool). cond t ((q .seed + 0) % 256 ∷ []) []) (eq-eqb (q .alive) 1 e)
-    ∙ ap (λ (s : ℕ). s ∷ []) (ap (λ (s : ℕ). s % 256) (add-zero (q .seed)) ∙ mod-eq-of-lt h)
+-- the alive byte, where the bench has it on and where not
+pub alive-present : (q : Question) (added : ℕ) → q .alive ≡ 1 → aliveByte q added ≡ (q .seed + added) % 256 ∷ []
+alive-present q added on = ap (λ (t : Bool). cond t ((q .seed + added) % 256 ∷ []) []) (eq-eqb (q .alive) 1 on)
+
+pub alive-absent : (q : Question) (added : ℕ) → (q .alive ≡ 1 → ⊥) → aliveByte q added ≡ []
+alive-absent q added off = ap (λ (t : Bool). cond t ((q .seed + added) % 256 ∷ []) []) (ne-eqb (q .alive) 1 off)
 
 pub alive-off : (q : Question) (added : ℕ) → q .alive ≡ 0 → aliveByte q added ≡ []
-alive-off q added e =
-    ap (λ (t : Bool). cond t ((q .seed + added) % 256 ∷ []) []) (ne-eqb (q .alive) 1 (λ one. omega arith))
+alive-off q added e = alive-absent q added (λ one. omega arith)
+
+-- the alive byte of a command is the seed, where there is one
+pub alive-on : (q : Question) → q .alive ≡ 1 → q .seed < 256 → aliveByte q 0 ≡ q .seed ∷ []
+alive-on q e h = alive-present q 0 e ∙ ap (λ (s : ℕ). s ∷ []) (ap (λ (s : ℕ). s % 256) (add-zero (q .seed)) ∙ mod-eq-of-lt h)
+
+-- covered bytes, PEC, alive byte
+pub sealed-size : (q : Question) (added : ℕ) (covered : List ℕ) → length (sealed q added covered) ≡ length covered + 1 + length (aliveByte q added)
+unfolding sealed
+sealed-size q added covered = omega (arith, length-append covered (pecOf covered ∷ aliveByte q added))
 
 pub length-pairs : (n : ℕ) → length (fillPairs n) ≡ 2 * n
 unfolding fillPairs

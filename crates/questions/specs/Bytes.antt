@@ -1,7 +1,7 @@
 -- The table of document 01, "Commands and answers": the bytes of each command and of its right answer, and their lengths.
 use mathlib.Core.Bool.{cond}
 use mathlib.Core.List.{List, [], _∷_, _++_}
-use Prim.Native.Nat.{ℕ, zero, suc, _+_, _*_, _/_, _%_}
+use Prim.Native.Nat.{ℕ, zero, suc, _+_, _/_, _%_}
 use lib.Dec.{eqb}
 use Rattle.pec.specs.Pec.{pecOf}
 use Rattle.questions.specs.Question.{byForm}

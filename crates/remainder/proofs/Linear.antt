@@ -1,7 +1,7 @@
 -- Shifts in either bit order, any number of them, and a whole list taken in, are linear.
 use mathlib.Core.Path.{_≡_, refl, sym, ap, ap₂, _∙_}
 use mathlib.Core.List.{List, [], _∷_}
-use Prim.Native.Nat.{ℕ, zero, suc, _+_, _*_, _/_, _%_, _^_, _<_}
+use Prim.Native.Nat.{ℕ, zero, suc, _*_, _/_, _%_, _^_, _<_}
 use native.Mathlib.Nat.{mod-lt, zero-lt-suc, zero-mul, add-zero, suc-inj}
 use native.Mathlib.Omega.{arith}
 use lib.ListN.{length}

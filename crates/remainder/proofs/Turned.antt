@@ -8,7 +8,7 @@ use native.Mathlib.Omega.{arith}
 use lib.Arith.{bin-ind}
 use lib.Bits.{bitXor, xor-lt, xor-self}
 use lib.Count.{ones, onesIn, ones-step}
-use lib.ListN.{length, getD}
+use lib.ListN.{length}
 use Rattle.remainder.specs.Turned.{turned, weight, distance, Bytes}
 use Rattle.remainder.proofs.Xor.{xor-back, xor-zero-same}
 

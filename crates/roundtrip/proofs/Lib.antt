@@ -1,4 +1,5 @@
 mod Alike
+mod Values
 mod HeardBack
 mod Acting
 pub mod LineBetween

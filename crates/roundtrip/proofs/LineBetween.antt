@@ -1,19 +1,18 @@
--- The line between: after the first m devices have had a good command, whatever their registers hold, the line is exactly the command as m
--- devices leave it, and each of them has changed its registers as the command asks of it.
+-- One device further: device m takes the command as the m devices before it leave it, and hands it on as m + 1 devices leave it, whatever its
+-- registers hold; and it changes them as the command asks of it. The whole way is in RoundTrip.
 use mathlib.Core.Path.{_≡_, refl, sym, ap, ap₂, _∙_, subst}
 use mathlib.Core.Bool.{Bool, true, false, cond, false≢true}
 use mathlib.Core.Logic.{_⊎_, inl, inr, ⊎-elim}
 use mathlib.Core.List.{List, [], _∷_, _++_}
-use Prim.Native.Nat.{ℕ, zero, suc, _+_, _-_, _*_, _≤_, _<_}
+use Prim.Native.Nat.{ℕ, suc, _+_, _-_, _*_, _≤_, _<_}
 use native.Mathlib.Nat.{zero-add}
 use native.Mathlib.Numerals.{add-one}
 use native.Mathlib.Omega.{arith}
 use lib.Dec.{ltb, eqb, lit<, lit≤}
-use lib.ListN.{length, getD, drop, List·getD-eq-default}
-use lib.Seq.{getD-take, getD-drop}
+use lib.ListN.{length}
 use borrow.Author.Tests.{eqb-true, eq-eqb, ne-eqb, lt-ltb, le-ltb}
 use Rattle.ground.specs.Sweep.{tabulated}
-use Rattle.ground.proofs.Sweep.{length-tabulated, tabulated-at}
+use Rattle.ground.proofs.Sweep.{length-tabulated}
 use Rattle.ground.proofs.Lists.{tabulated-next}
 use Rattle.ground.proofs.Test.{below-or-not}
 use Rattle.remainder.specs.Turned.{Bytes}
@@ -36,23 +35,9 @@ use Rattle.passage.specs.declared.pass.Change.{Change}
 use Rattle.passage.specs.declared.pass.Change.the-variants.{Nothing}
 use Rattle.twin.specs.Step.{registersOf}
 use Rattle.roundtrip.specs.Between.{held, oneOf, actedAt, acted, putAt, putIn, lineBetween, For}
+use Rattle.roundtrip.proofs.Values.{wire-next, held-lt, tabulated-registers, one-register}
 use Rattle.roundtrip.proofs.HeardBack.{first-byte}
 use Rattle.roundtrip.proofs.Acting.{write-alone, no-change, acts-on, hello-on, for-another}
-
--- ---- values on the wire
-
--- one more value, of the next higher address, stands directly after the register byte
-wire-next : (values : List ℕ) (v : ℕ) → onWire (values ++ (v ∷ [])) ≡ lowHigh v ++ onWire values
-unfolding onWire
-wire-next [] v = refl
-wire-next (x ∷ values) v = ap (λ (l : List ℕ). l ++ lowHigh x) (wire-next values v)
-
--- every word of the memory is a register's value
-held-at : (memory : List ℕ) (k r : ℕ) → r < 256 → held memory k r ≡ getD memory (256 * k + r) 0
-held-at memory k r h = getD-take 256 (drop (256 * k) memory) r 0 h ∙ getD-drop (256 * k) memory r 0
-
-pub held-lt : (memory : List ℕ) → Registers memory → (k r : ℕ) → r < 256 → held memory k r < 65536
-held-lt memory words k r h = subst (λ (x : ℕ). x < 65536) (sym (held-at memory k r h)) (words (256 * k + r))
 
 -- ---- one device
 
@@ -132,21 +117,13 @@ module _ (q : Question) (sends : Sendable q) (n : ℕ) (memory : List ℕ) (word
     no-registers i = lit< tt
 
     all-registers : Registers (all-values m)
-    all-registers i =
-        let f : ℕ → ℕ = λ k. held memory k (q .reg) in
-        ⊎-elim (λ (h : i < m). omega (arith, tabulated-at f m 0 i h, held-lt memory words (0 + i) (q .reg) (sends .reg)))
-        (λ h. let past : length (tabulated f m 0) ≤ i = omega (arith, length-tabulated f m 0) in omega (arith, List·getD-eq-default (tabulated f m 0) 0 past))
-        (below-or-not i m)
+    all-registers = tabulated-registers (λ (k : ℕ). held memory k (q .reg)) m (λ k. held-lt memory words k (q .reg) (sends .reg))
 
     one-registers : Registers (one-value m)
     one-registers = either (ltb (q .device) m)
       where
-        single : (v : ℕ) → v < 65536 → Registers (v ∷ [])
-        single v h zero = h
-        single v h (suc i) = no-registers i
-
         either : (t : Bool) → Registers (cond t (held memory (q .device) (q .reg) ∷ []) [])
-        either true = single (held memory (q .device) (q .reg)) (held-lt memory words (q .device) (q .reg) (sends .reg))
+        either true = one-register (held memory (q .device) (q .reg)) (held-lt memory words (q .device) (q .reg) (sends .reg))
         either false = no-registers
 
     registers-at : (x : ℕ) → q .kind ≡ x → Registers (putAt x q m memory) → Registers (putIn q m memory)

@@ -3,61 +3,30 @@
 use mathlib.Core.Path.{_≡_, refl, sym, ap, _∙_, subst}
 use mathlib.Core.Bool.{Bool, true, false}
 use mathlib.Core.Logic.{_⊎_, ⊎-elim}
-use mathlib.Core.List.{List, [], _∷_}
-use Prim.Native.Nat.{ℕ, _+_, _-_, _*_, _≤_, _<_}
-use native.Mathlib.Nat.{le-refl, eq-zero-or-pos}
-use native.Mathlib.Omega.{arith}
-use lib.Dec.{lit<}
+use mathlib.Core.List.{List, [], _++_}
+use Prim.Native.Nat.{ℕ, _+_, _-_, _*_, _≤_, suc}
+use native.Mathlib.Nat.{eq-zero-or-pos}
 use lib.ListN.{length}
-use lib.Seq.{take-all}
-use Rattle.ground.specs.Sweep.{tabulated}
+use Rattle.passage.specs.Pass.{changeAsked, changeOf, changed}
+use Rattle.twin.proofs.Registers.{hop-own}
+use Rattle.roundtrip.specs.Between.{held}
 use Rattle.ground.proofs.Sweep.{length-tabulated}
 use Rattle.remainder.specs.Turned.{Bytes}
 use Rattle.lines.specs.Line.{lineOf, byteAt}
-use Rattle.questions.specs.Bytes.{onWire}
+use Rattle.questions.specs.Bytes.{onWire, lowHigh}
 use Rattle.questions.specs.declared.question.Question.{Question}
 use Rattle.acceptance.specs.Answer.{Registers}
-use Rattle.acceptance.proofs.Wire.{bytes-cons, length-wire, wire-bytes, valueIn, wire-read}
+use Rattle.acceptance.proofs.Wire.{length-wire, wire-bytes}
 use Rattle.hearing.specs.Hear.{carried, plainly, heard}
 use Rattle.underway.specs.OnTheWay.{onTheWay, wireOf}
-use Rattle.passage.specs.Acting.{acts}
+use Rattle.passage.specs.Acting.{acts, handedOn}
 use Rattle.hearing.proofs.Hearing.{heard-either, heard-good, heard-n, place-below}
 use Rattle.passage.proofs.Passing.{left-unchanged, nothing-stored}
 use Rattle.passage.proofs.EqualLength.{acts-place, acts-met}
 use Rattle.twin.specs.Step.{registersOf, withChange, Standing, hop}
 use Rattle.roundtrip.specs.Commands.{CommandFor}
-use Rattle.roundtrip.proofs.RoundTrip.{tabulated-registers}
-use Rattle.roundtrip.proofs.Acting.{met-is, heard-sends, wire-small, acts-on, hello-on}
-
--- any two bytes for each of m places are m values on the wire
-module _ (wire : List ℕ) (small : Bytes wire) (m : ℕ) (size : length wire ≡ 2 * m) where
-  framed : List ℕ
-  framed = 0 ∷ 0 ∷ wire
-
-  framed-small : Bytes (0 ∷ 0 ∷ wire)
-  framed-small = bytes-cons 0 (0 ∷ wire) (lit< tt) (bytes-cons 0 wire (lit< tt) small)
-
-  wide : 2 + 2 * m ≤ length (0 ∷ 0 ∷ wire)
-  wide = omega arith
-
-  pub valuesOf : List ℕ
-  valuesOf = tabulated (valueIn (0 ∷ 0 ∷ wire) framed-small m wide) m (m - m)
-
-  pub values-number : length valuesOf ≡ m
-  unfolding valuesOf
-  values-number = length-tabulated (valueIn (0 ∷ 0 ∷ wire) framed-small m wide) m (m - m)
-
-  pub values-wire : wire ≡ onWire valuesOf
-  unfolding valuesOf
-  values-wire = sym (take-all (2 * m) wire (omega arith)) ∙ wire-read (0 ∷ 0 ∷ wire) framed-small m wide m (le-refl m)
-
-  pub values-registers : Registers valuesOf
-  unfolding valuesOf
-  values-registers =
-      let none : m - m ≡ 0 = omega arith in
-      let value = valueIn (0 ∷ 0 ∷ wire) framed-small m wide in
-      subst (λ (i : ℕ). Registers (tabulated value m i)) (sym none)
-      (tabulated-registers value m (λ k. let low = framed-small (2 + 2 * (m - 1 - k)) in let high = framed-small (2 + 2 * (m - 1 - k) + 1) in omega arith))
+use Rattle.roundtrip.proofs.Values.{valuesOf, values-number, values-wire, values-registers}
+use Rattle.roundtrip.proofs.Acting.{met-is, heard-sends, wire-small, acts-on, hello-on, Acts}
 
 module _ (n k : ℕ) (line : List ℕ) where
   heard-own : heard n k line .device ≡ k
@@ -103,4 +72,21 @@ no-command-no-change n k s none = by-test (acts n k (s .line)) refl
     by-test false e = (
       left-unchanged n k (registersOf (s .memory) k) (s .line) e,
       ap (withChange (s .memory) k) (nothing-stored n k (registersOf (s .memory) k) (s .line) e),
+    )
+
+-- EACH STEP BY ITS RULE, said without the device's own test: on a command for it the device hands on that command with HELLOALL's last byte
+-- and the alive byte one more and its own value directly after the register byte, and does to its registers what the command asks.
+pub by-its-rule : (n k : ℕ) (s : Standing) (c : CommandFor n k (s .line))
+    → (hop n k s .line ≡ lineOf (onTheWay (c .question) (suc k) 1 (lowHigh (held (s .memory) k (c .question .reg)) ++ onWire (c .values))))
+    × (registersOf (hop n k s .memory) k ≡ changed (registersOf (s .memory) k) (changeAsked (c .question)))
+by-its-rule n k s c =
+    let q = c .question in
+    let registers = registersOf (s .memory) k in
+    let wire = onWire (c .values) in
+    let done : Acts n k (lineOf (onTheWay q k 0 wire)) (lineOf (onTheWay q (suc k) 1 (lowHigh (held (s .memory) k (q .reg)) ++ wire))) q registers =
+    ⊎-elim (λ (hello : q .kind ≡ 0). hello-on q n k (c .put) hello registers 0 1 wire (lowHigh (held (s .memory) k (q .reg)) ++ wire))
+    (λ (some : 1 ≤ q .kind). acts-on q n k (c .put) (c .sent) 0 wire (wire-bytes (c .values) (c .registers)) (length (c .values)) (length-wire (c .values)) some (c .number) registers)
+    (eq-zero-or-pos (q .kind)) in (
+      ap (λ (l : List ℕ). handedOn n k l registers) (c .is) ∙ done .hands,
+      hop-own n k s ∙ ap (changed registers) (ap (changeOf n k) (c .is) ∙ done .changes),
     )

@@ -7,11 +7,11 @@ use mathlib.Core.List.{List, [], _∷_, _++_, append-nil}
 use Prim.Native.Nat.{ℕ, zero, suc, _+_, _-_, _/_, _≤_, _<_}
 use native.Mathlib.Nat.{le-refl, sub-zero, eq-zero-or-pos, eq-or-lt-of-le}
 use native.Mathlib.Omega.{arith}
-use lib.Dec.{ltb, lit<}
-use lib.ListN.{length, List·getD-eq-default}
+use lib.Dec.{ltb}
+use lib.ListN.{length}
 use borrow.Author.Tests.{lt-ltb, le-ltb}
 use Rattle.ground.specs.Sweep.{tabulated}
-use Rattle.ground.proofs.Sweep.{length-tabulated, tabulated-at}
+use Rattle.ground.proofs.Sweep.{length-tabulated}
 use Rattle.ground.proofs.Test.{below-or-not}
 use Rattle.lines.specs.Line.{lineOf}
 use Rattle.questions.specs.Question.{byForm, goodQuestion}
@@ -31,7 +31,8 @@ use Rattle.underway.proofs.Way.{way-hello, way-write, way-read}
 use Rattle.twin.specs.Step.{registersOf, Standing, standing, hops}
 use Rattle.twin.proofs.Registers.{hop-own, hop-other}
 use Rattle.roundtrip.specs.Between.{held, oneOf, actedAt, acted, putAt, putIn, lineBetween, broughtAt, broughtBack}
-use Rattle.roundtrip.proofs.LineBetween.{held-lt, changeFor, next}
+use Rattle.roundtrip.proofs.Values.{held-lt, tabulated-registers, one-register}
+use Rattle.roundtrip.proofs.LineBetween.{changeFor, next}
 
 -- ---- devices that are not stepped keep their registers
 
@@ -101,16 +102,6 @@ read-answer q values reads = of-read (q .kind) _ _ _ reads
 no-pairs : (l : List ℕ) → l ++ fillPairs 0 ≡ l
 unfolding fillPairs
 no-pairs l = append-nil l
-
-pub tabulated-registers : (f : ℕ → ℕ) (n : ℕ) → ((k : ℕ) → f k < 65536) → Registers (tabulated f n 0)
-tabulated-registers f n small i =
-    ⊎-elim (λ (h : i < n). omega (arith, tabulated-at f n 0 i h, small (0 + i)))
-    (λ h. let past : length (tabulated f n 0) ≤ i = omega (arith, length-tabulated f n 0) in omega (arith, List·getD-eq-default (tabulated f n 0) 0 past))
-    (below-or-not i n)
-
-one-register : (v : ℕ) → v < 65536 → Registers (v ∷ [])
-one-register v h zero = h
-one-register v h (suc i) = lit< tt
 
 module _ (q : Question) (good : goodQuestion q ≡ true) (sends : Sendable q) (n : ℕ) (chain : 1 ≤ q .kind → q .n ≡ n) (least : 1 ≤ n) (most : n ≤ 32)
     (memory : List ℕ) (words : Registers memory) where

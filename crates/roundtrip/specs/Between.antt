@@ -18,7 +18,7 @@ use Rattle.twin.specs.Step.{registersOf}
 abbrev pub held : (memory : List ℕ) → (k r : ℕ) → ℕ
 held memory k r = getD (registersOf memory k) r 0
 
--- how many of the first m devices have acted on a command for all, or on one for device a
+-- how many of the first m devices have acted on a command for device a: one, once it has had it
 abbrev pub oneOf : (a m : ℕ) → ℕ
 oneOf a m = cond (ltb a m) 1 0
 

@@ -2,21 +2,9 @@
 use mathlib.Core.Path.{sym, _∙_}
 use denote.Ref.{now}
 use Rattle.ground.specs.Agree.{Settled, SettledIn}
-use Rattle.twin.proofs.memory.power_on.Reads as power-on
-use Rattle.twin.proofs.memory.powered_number.Reads as powered-number
 use Rattle.twin.proofs.step.step.Reads as step
 use Rattle.twin.proofs.step.run_chain.Reads as run-chain
 use Rattle.twin.proofs.step.stepped_number.Reads as stepped-number
-
-pub power-on-settled : Settled power-on.Post
-power-on-settled l given r r′ left left′ p q = p .says ∙ sym (q .says)
-
--- the lent memory
-pub power-on-settled-memory : SettledIn (λ l left. now (left .1 .0)) power-on.Post
-power-on-settled-memory l given r r′ left left′ p q = p .leaves ∙ sym (q .leaves)
-
-pub powered-number-settled : Settled powered-number.Post
-powered-number-settled l given r r′ left left′ p q = p ∙ sym q
 
 pub step-settled : Settled step.Post
 step-settled l given r r′ left left′ p q = p .says ∙ sym (q .says)

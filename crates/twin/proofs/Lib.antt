@@ -1,4 +1,3 @@
-mod Power
 pub mod Stepping
 pub mod Registers
 pub mod Agree

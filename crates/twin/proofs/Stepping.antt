@@ -1,23 +1,17 @@
 -- Devices stepped: what each way through the calls leaves.
 use mathlib.Core.Path.{_≡_, refl, sym, ap, ap₂, _∙_}
-use mathlib.Core.Bool.{Bool, true, false, cond, _&&_}
+use mathlib.Core.Bool.{Bool, true, false, cond}
 use mathlib.Core.List.{List, _++_}
-use Prim.Native.Nat.{ℕ, zero, suc, _+_, _*_, _≤_, _<_}
-use lib.Dec.{leb, eqb}
+use Prim.Native.Nat.{ℕ, zero, suc, _+_, _≤_, _<_}
+use lib.Dec.{leb}
 use lib.ListN.{length, take, drop}
 use lib.Seq.{take-at, drop-at}
-use borrow.Author.Tests.{eqb-true, le-leb, lt-leb}
-use Rattle.ground.proofs.Test.{and-right}
+use borrow.Author.Tests.{le-leb, lt-leb}
 use Rattle.lines.specs.Write.{atFront}
 use Rattle.passage.proofs.EqualLength.{length-handed}
-use Rattle.twin.specs.Memory.{isChain}
 use Rattle.twin.specs.Step.{registersOf, Standing, standing, hop, hops, Hopped, steppedOf, outOf, memoryAfter, Done}
 use Rattle.twin.specs.declared.step.Stepped.{Stepped}
 use Rattle.twin.specs.declared.step.Stepped.the-variants.{Handed, Twin, Room}
-
--- the memory of a chain
-pub chain-words : (n words : ℕ) → isChain n words ≡ true → words ≡ 256 * n
-chain-words n words chain = eqb-true words (256 * n) (and-right (leb 1 n && leb n 32) (eqb words (256 * n)) chain)
 
 -- ---- the three answers
 

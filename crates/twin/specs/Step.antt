@@ -10,7 +10,7 @@ use Rattle.passage.specs.Acting.{handedOn}
 use Rattle.passage.specs.Pass.{changeOf}
 use Rattle.passage.specs.declared.pass.Change.{Change}
 use Rattle.passage.specs.declared.pass.Change.the-variants as change
-use Rattle.twin.specs.Memory.{isChain}
+use Rattle.registers.specs.Memory.{isChain}
 use Rattle.twin.specs.declared.step.Stepped.{Stepped}
 use Rattle.twin.specs.declared.step.Stepped.the-variants.{Handed, Twin, Room}
 

@@ -1,7 +1,7 @@
 // Devices stepped: each takes the line as it stands and hands on a line of equal length.
-use crate::chain::is_chain;
 use passage::pass::Change;
 use passage::pass::pass;
+use registers::is_chain;
 ghost use mathlib.Core.Path.{_≡_};
 ghost use Prim.Native.Nat.{_+_, _*_, _≤_, _<_};
 ghost use lib.ListN.{length};

@@ -1,14 +1,12 @@
 -- Bytes laid one behind the other: what follows of the whole from its parts.
 use mathlib.Core.Path.{_≡_, refl, sym, ap, ap₂, _∙_, subst}
-use mathlib.Core.Bool.{Bool, cond}
 use mathlib.Core.List.{List, [], _∷_, _++_, append-assoc, append-nil}
-use Prim.Native.Nat.{ℕ, zero, suc, _+_, _-_, _%_, _≤_, _<_}
+use Prim.Native.Nat.{ℕ, zero, suc, _+_, _-_, _≤_, _<_}
 use native.Mathlib.Nat.{add-zero, zero-add}
 use native.Mathlib.Numerals.{add-one}
 use native.Mathlib.Omega.{arith}
 use lib.ListN.{length, take, drop, set, length-append, length-take}
 use lib.Seq.{take-suc-set, length-take-le, take-nil}
-use borrow.Author.Tests.{eq-eqb, ne-eqb}
 use Rattle.pec.specs.Pec.{pecOf}
 use Rattle.questions.specs.Bytes.{aliveByte, sealed, fillPairs}
 use Rattle.questions.specs.declared.question.Question.{Question}
@@ -67,12 +65,6 @@ pairs-next i = last i ∙ ap fillPairs (sym (add-one i))
     last (suc i) = ap (λ (l : List ℕ). 0xC2 ∷ 0xD3 ∷ l) (last i)
 
 -- ---- the covered bytes, their PEC, the alive byte
-
-pub no-alive : (q : Question) (added : ℕ) → (q .alive ≡ 1 → ⊥) → aliveByte q added ≡ []
-no-alive q added off = ap (λ (t : Bool). cond t ((q .seed + added) % 256 ∷ []) []) (ne-eqb (q .alive) 1 off)
-
-pub with-alive : (q : Question) (added : ℕ) → q .alive ≡ 1 → aliveByte q added ≡ (q .seed + added) % 256 ∷ []
-with-alive q added on = ap (λ (t : Bool). cond t ((q .seed + added) % 256 ∷ []) []) (eq-eqb (q .alive) 1 on)
 
 pub sealed-laid : (q : Question) (added at check : ℕ) (tail l : List ℕ) {l′ : List ℕ} {end : ℕ} → at ≤ length l → check ≡ pecOf (take at l)
     → aliveByte q added ≡ tail → Laid l at (check ∷ tail) l′ end → Holds l′ end (sealed q added (take at l))

@@ -9,12 +9,11 @@ use native.Mathlib.Omega.{arith}
 use lib.Dec.{eqb}
 use lib.ListN.{length, length-append}
 use Rattle.ground.proofs.Test.{below-or-not}
-use Rattle.pec.specs.Pec.{pecOf}
 use Rattle.questions.specs.Shape.{shapeOf}
 use Rattle.questions.specs.Bytes.{lowHigh, aliveByte, sealed, fillPairs, writeCovered}
 use Rattle.questions.specs.declared.question.Question.{Question}
 use Rattle.questions.proofs.ByKind.{of-hello, of-write, of-read}
-use Rattle.questions.proofs.Bytes.{length-pairs}
+use Rattle.questions.proofs.Bytes.{sealed-size, length-pairs}
 use Rattle.underway.specs.OnTheWay.{onTheWay}
 
 -- the covered bytes of a read on its way
@@ -51,18 +50,14 @@ module _ (q : Question) where
       either true = omega arith
       either false = omega arith
 
-  pub sealed-size : (a : ℕ) (covered : List ℕ) → length (sealed q a covered) ≡ length covered + 1 + length (aliveByte q a)
-  unfolding sealed
-  sealed-size a covered = omega (arith, length-append covered (pecOf covered ∷ aliveByte q a))
-
   pub sealed-most : (a : ℕ) (covered : List ℕ) → length (sealed q a covered) ≤ length covered + 2
-  sealed-most a covered = omega (arith, sealed-size a covered, alive-most a)
+  sealed-most a covered = omega (arith, sealed-size q a covered, alive-most a)
 
   pub read-size : (a : ℕ) (w : List ℕ) → length (sealed q a (readOnWay q w) ++ fillPairs (shapeOf q .values - length w / 2))
       ≡ 4 + length w + length (aliveByte q a) + 2 * (shapeOf q .values - length w / 2)
   read-size a w =
       let pairs = fillPairs (shapeOf q .values - length w / 2) in
-      omega (arith, length-append (sealed q a (readOnWay q w)) pairs, sealed-size a (readOnWay q w), length-append w (0 ∷ []), length-pairs (shapeOf q .values - length w / 2))
+      omega (arith, length-append (sealed q a (readOnWay q w)) pairs, sealed-size q a (readOnWay q w), length-append w (0 ∷ []), length-pairs (shapeOf q .values - length w / 2))
 
   -- a device hands on a line of equal length: its own value takes the place of a fill pair
   pub equal-length : (count count′ added added′ own m : ℕ) (wire : List ℕ) → length wire ≡ 2 * m → (3 ≤ q .kind → m < shapeOf q .values)
@@ -72,7 +67,7 @@ module _ (q : Question) where
       ⊎-elim
       (λ (low : q .kind < 3). ⊎-elim
       (λ e. ap length (way-hello q count′ added′ more e) ∙ sym (ap length (way-hello q count added wire e)))
-      (λ lo. omega (arith, ap length (way-write q count′ added′ more lo (omega arith)), ap length (way-write q count added wire lo (omega arith)), sealed-size added′ (writeCovered q), sealed-size added (writeCovered q), alive-length added added′))
+      (λ lo. omega (arith, ap length (way-write q count′ added′ more lo (omega arith)), ap length (way-write q count added wire lo (omega arith)), sealed-size q added′ (writeCovered q), sealed-size q added (writeCovered q), alive-length added added′))
       (eq-zero-or-pos (q .kind)))
       (λ lo. let less = room lo in
       omega (arith, ap length (way-read q count′ added′ more lo), ap length (way-read q count added wire lo), read-size added′ more, read-size added wire, alive-length added added′))

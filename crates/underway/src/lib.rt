@@ -7,7 +7,9 @@ use lay::lay;
 use lay::push_carried;
 use lay::push_value;
 use questions::question::Question;
+use questions::question::WRITEDEVICE;
 use questions::question::is_good;
+use questions::question::shape_of;
 use writing::put_line;
 ghost use mathlib.Core.Path.{_≡_};
 ghost use mathlib.Core.Bool.{true};
@@ -21,7 +23,7 @@ ghost use Rattle.questions.specs.Question.{goodQuestion};
 ghost use Rattle.questions.specs.Bytes.{lowHigh};
 ghost use Rattle.underway.specs.Lay.{Holds};
 ghost use Rattle.underway.specs.OnTheWay.{onTheWay, wireOf};
-ghost use Rattle.underway.specs.TakeUp.{canBe, TakenUp};
+ghost use Rattle.underway.specs.TakeUp.{mayCarry, possible, TakenUp};
 
 fn buffer() -> [u8; 136]
     ensures { λ r. ⌜ length r ≡ 136 ⌝ }
@@ -29,20 +31,31 @@ fn buffer() -> [u8; 136]
     [0; 136]
 }
 
-fn can_be(q: Question, device: u8, m: usize) -> bool
-    ensures { λ r. ⌜ r ≡ canBe q device m ⌝ }
+// Whether m values can stand on the line before a device that has yet to put its own in.
+fn may_carry(q: Question, m: usize) -> bool
+    ensures { λ r. ⌜ r ≡ mayCarry q m ⌝ }
+{
+    if q.kind <= WRITEDEVICE {
+        return m < 1;
+    }
+    let s = shape_of(q);
+    m < s.values
+}
+
+fn is_possible(q: Question, device: u8, m: usize) -> bool
+    ensures { λ r. ⌜ r ≡ possible q device m ⌝ }
 {
     if !is_good(q) {
         return false;
     }
-    if 32 <= m {
+    if !may_carry(q, m) {
         return false;
     }
     device < 32
 }
 
 // Whether a line is the question's command as the devices before this one left it.
-fn is_met(q: Question, device: u8, wire: &[u8], line: &[u16]) -> bool
+fn is_as_left(q: Question, device: u8, wire: &[u8], line: &[u16]) -> bool
     requires { ⌜ (goodQuestion q ≡ true) × (length (now wire) ≤ 64) ⌝ }
     ensures { λ r. ⌜ r ≡ same (now (line .entry)) (lineOf (onTheWay q device 0 (now (wire .entry)))) ⌝ }
 {
@@ -75,13 +88,13 @@ fn gather(own: u16, line: &[u16], m: usize, wire: &mut [u8]) -> usize
 pub fn take_up(q: Question, device: u8, own: u16, m: usize, line: &mut [u16]) -> bool
     ensures { λ r. ⌜ TakenUp q device own m (now (line .entry)) (now (line .exit)) r ⌝ }
 {
-    if !can_be(q, device, m) {
+    if !is_possible(q, device, m) {
         return false;
     }
     let mut wire = buffer();
     let end = gather(own, line, m, &mut wire);
     let others = 2;
-    if !is_met(q, device, &wire[others..end], line) {
+    if !is_as_left(q, device, &wire[others..end], line) {
         return false;
     }
     hand(q, device, &wire[..end], line);

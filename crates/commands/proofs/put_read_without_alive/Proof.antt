@@ -1,12 +1,11 @@
 -- `put_read_without_alive` meets its contract: the places taken, and the fill pairs behind them, are the command's bytes.
-use mathlib.Core.Path.{_≡_, subst, ap, _∙_}
+use mathlib.Core.Path.{subst, ap, _∙_}
 use mathlib.Core.List.{List}
-use Prim.Native.Nat.{ℕ, _+_, _-_, _*_, _<_}
+use Prim.Native.Nat.{ℕ, _+_, _-_, _*_}
 use native.Mathlib.Omega.{arith}
-use lib.ListN.{length, take, drop, set, length-set, length-take}
+use lib.ListN.{length, take, drop, set, length-set}
 use Rattle.writing.specs.PutLine.{LinePut}
 use Rattle.questions.specs.Bytes.{fillPairs}
-use Rattle.commands.specs.Command.{blank}
 use Rattle.commands.proofs.Writing.{read-taken-off, pec-of-three}
 use borrow.Author.Needs.{needs}
 use Rattle.commands.proofs.put_read_without_alive.Statement.{statement}

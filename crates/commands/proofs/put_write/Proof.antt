@@ -1,6 +1,6 @@
 -- `put_write` meets its contract: the places taken are the command's bytes.
-use mathlib.Core.Path.{_≡_, subst}
-use mathlib.Core.List.{List, []}
+use mathlib.Core.Path.{subst}
+use mathlib.Core.List.{List}
 use Prim.Native.Nat.{ℕ, _%_, _/_, _<_}
 use native.Mathlib.Omega.{arith}
 use lib.ListN.{length-take}

@@ -3,7 +3,7 @@ use mathlib.Core.Path.{_≡_, refl, sym, ap, _∙_}
 use Prim.Native.Nat.{ℕ, _+_, _≤_, _-_}
 use native.Mathlib.Omega.{arith}
 use borrow.Author.Needs.{needs}
-use lib.ListN.{length, drop, getD}
+use lib.ListN.{length, drop}
 use Rattle.remainder.specs.Register.{run}
 use Rattle.remainder.proofs.Run.{run-next, run-end}
 use Rattle.pec.specs.Pec.{byteStep, pecOf}

@@ -1,12 +1,10 @@
 -- `step` meets its contract: the table is computed from its rule, all of it at once, and the entry that is read is its rule at the
 -- byte folded into the register.
-use mathlib.Core.Path.{_≡_, _∙_, ap}
+use mathlib.Core.Path.{_∙_, ap}
 use Prim.Native.Nat.{ℕ, _<_}
 use native.Mathlib.Nat.{zero-add}
 use native.Mathlib.Omega.{arith}
 use lib.Bits.{bitXor, xor-lt}
-use lib.ListN.{getD}
-use Rattle.ground.specs.Sweep.{tabulated}
 use Rattle.ground.proofs.Sweep.{tabulated-at}
 use Rattle.remainder.specs.Register.{times}
 use Rattle.pec.specs.Pec.{bitStep, byteStep}

@@ -1,10 +1,9 @@
 -- `first_failing` meets its contract: what is left from here always answers as the whole does.
 use mathlib.Core.Path.{_≡_, refl, sym, _∙_}
-use Prim.Native.Nat.{ℕ, _+_, _-_, _≤_}
+use Prim.Native.Nat.{_-_}
 use native.Mathlib.Omega.{arith}
 use borrow.Author.Needs.{needs}
 use borrow.Author.Tests.{not-true, not-false}
-use lib.ListN.{length}
 use Rattle.scanning.specs.Place.{testOf, firstFailing}
 use Rattle.scanning.proofs.FirstPlace.{scan-on, scan-here, scan-done}
 use Rattle.scanning.proofs.first_failing.Statement.{statement}

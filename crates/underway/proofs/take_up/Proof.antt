@@ -4,7 +4,7 @@ use native.Mathlib.Omega.{arith}
 use mathlib.Core.Path.{refl, sym, ap, _∙_}
 use mathlib.Core.Bool.{true, false}
 use mathlib.Core.List.{List}
-use Prim.Native.Nat.{ℕ, suc, _+_, _*_, _/_, _%_}
+use Prim.Native.Nat.{ℕ, suc, _*_, _/_, _%_}
 use lib.ListN.{length, length-take, length-append}
 use borrow.Author.Tests.{not-true, not-false}
 use Rattle.ground.specs.Same.{same}
@@ -14,25 +14,25 @@ use Rattle.writing.specs.PutLine.{outOf}
 use Rattle.questions.specs.Bytes.{lowHigh}
 use Rattle.underway.specs.OnTheWay.{onTheWay, wireOf}
 use Rattle.underway.proofs.Laying.{holds-within, holds-behind}
-use Rattle.underway.proofs.TakingUp.{bounds, cannot-be, up-by, left-alone, taken-up}
+use Rattle.underway.proofs.TakingUp.{bounds, impossible, met-by, left-alone, taken-up}
 use Rattle.underway.proofs.take_up.Statement.{statement}
 use Rattle.underway.proofs.take_up.Tie as tie
 use Rattle.underway.proofs.take_up.Reads as reads
 use Rattle.underway.proofs.take_up.Lts as lts
 use Rattle.underway.proofs.buffer.Reads as buffer-reads
-use Rattle.underway.proofs.can_be.Reads as can-be-reads
+use Rattle.underway.proofs.is_possible.Reads as is-possible-reads
 use Rattle.underway.proofs.gather.Reads as gather-reads
 use Rattle.underway.proofs.hand.Reads as hand-reads
-use Rattle.underway.proofs.is_met.Reads as is-met-reads
+use Rattle.underway.proofs.is_as_left.Reads as is-as-left-reads
 
-can-be-requires : tie.Need-can-be-requires
-can-be-requires c κs = tt
+is-possible-requires : tie.Need-is-possible-requires
+is-possible-requires c κs = tt
 
 returns : tie.Need-returns
 returns c =
     let a = c .before .before .before .args in
     left-alone (a .q) (a .device) (a .own) (a .m) (a .line .now)
-    (cannot-be (a .q) (a .device) (a .own) (a .m) (a .line .now) (sym (c .before .can-be .ensures) ∙ not-true (c .before .can-be .result) (c .if1 .taken)))
+    (impossible (a .q) (a .device) (a .own) (a .m) (a .line .now) (sym (c .before .is-possible .ensures) ∙ not-true (c .before .is-possible .result) (c .if1 .taken)))
 
 buffer-requires : tie.Need-buffer-requires
 buffer-requires c κs = tt
@@ -43,23 +43,23 @@ slice-aggregate-gather c = search needs
 gather-requires : tie.Need-gather-requires
 gather-requires c κs =
     let a = c .before .before .before .before .before .before .args in
-    let b = bounds (a .q) (a .device) (a .m) (sym (c .before .before .before .before .can-be .ensures) ∙ not-false (c .before .before .before .before .can-be .result) (c .before .before .before .if1 .left)) in
+    let b = bounds (a .q) (a .device) (a .m) (sym (c .before .before .before .before .is-possible .ensures) ∙ not-false (c .before .before .before .before .is-possible .result) (c .before .before .before .if1 .left)) in
     (omega (arith, b .values, c .before .before .buffer .ensures), b .values)
 
-sub-is-met : tie.Need-sub-is-met
-sub-is-met c = omega (arith, c .before .gather .ensures .up)
+sub-is-as-left : tie.Need-sub-is-as-left
+sub-is-as-left c = omega (arith, c .before .gather .ensures .up)
 
-part-is-met-start : tie.Need-part-is-met-start
-part-is-met-start c = omega (arith, c .before .before .gather .ensures .up)
+part-is-as-left-start : tie.Need-part-is-as-left-start
+part-is-as-left-start c = omega (arith, c .before .before .gather .ensures .up)
 
-part-is-met-end : tie.Need-part-is-met-end
-part-is-met-end c = holds-within (c .before .before .gather .ensures)
+part-is-as-left-end : tie.Need-part-is-as-left-end
+part-is-as-left-end c = holds-within (c .before .before .gather .ensures)
 
-is-met-requires : tie.Need-is-met-requires
-is-met-requires c κs =
+is-as-left-requires : tie.Need-is-as-left-requires
+is-as-left-requires c κs =
     let a = c .before .before .before .before .before .before .before .before .before .before .before .args in
     let line = a .line .now in
-    let b = bounds (a .q) (a .device) (a .m) (sym (c .before .before .before .before .before .before .before .before .before .can-be .ensures) ∙ not-false (c .before .before .before .before .before .before .before .before .before .can-be .result) (c .before .before .before .before .before .before .before .before .if1 .left)) in
+    let b = bounds (a .q) (a .device) (a .m) (sym (c .before .before .before .before .before .before .before .before .before .is-possible .ensures) ∙ not-false (c .before .before .before .before .before .before .before .before .before .is-possible .result) (c .before .before .before .before .before .before .before .before .if1 .left)) in
     let part = holds-behind (a .own % 256) (a .own / 256) (wireOf line (a .m)) (c .before .before .before .before .gather .ensures) in
     (b .good, omega (arith, ap length part, length-tabulated (byteAt line) (2 * a .m) 2, b .values))
 
@@ -70,10 +70,10 @@ returns-2 : tie.Need-returns-2
 returns-2 c =
     let a = c .before .before .before .before .before .before .before .before .before .before .before .before .before .args in
     let line = a .line .now in
-    let can = sym (c .before .before .before .before .before .before .before .before .before .before .before .can-be .ensures) ∙ not-false (c .before .before .before .before .before .before .before .before .before .before .before .can-be .result) (c .before .before .before .before .before .before .before .before .before .before .if1 .left) in
+    let can = sym (c .before .before .before .before .before .before .before .before .before .before .before .is-possible .ensures) ∙ not-false (c .before .before .before .before .before .before .before .before .before .before .before .is-possible .result) (c .before .before .before .before .before .before .before .before .before .before .if1 .left) in
     let part = holds-behind (a .own % 256) (a .own / 256) (wireOf line (a .m)) (c .before .before .before .before .before .before .gather .ensures) in
-    left-alone (a .q) (a .device) (a .own) (a .m) line (up-by (a .q) (a .device) (a .own) (a .m) line false can
-    (sym (c .before .is-met .ensures ∙ ap (λ (w : List ℕ). same line (lineOf (onTheWay (a .q) (a .device) 0 w))) part) ∙ not-true (c .before .is-met .result) (c .if2 .taken)))
+    left-alone (a .q) (a .device) (a .own) (a .m) line (met-by (a .q) (a .device) (a .own) (a .m) line false can
+    (sym (c .before .is-as-left .ensures ∙ ap (λ (w : List ℕ). same line (lineOf (onTheWay (a .q) (a .device) 0 w))) part) ∙ not-true (c .before .is-as-left .result) (c .if2 .taken)))
 
 array-share-prefix-wire : tie.Need-array-share-prefix-wire
 array-share-prefix-wire c = holds-within (c .before .before .before .before .before .before .gather .ensures)
@@ -85,7 +85,7 @@ hand-requires : tie.Need-hand-requires
 hand-requires c κs =
     let a = c .before .before .before .before .before .before .before .before .before .before .before .before .before .before .before .args in
     let line = a .line .now in
-    let b = bounds (a .q) (a .device) (a .m) (sym (c .before .before .before .before .before .before .before .before .before .before .before .before .before .can-be .ensures) ∙ not-false (c .before .before .before .before .before .before .before .before .before .before .before .before .before .can-be .result) (c .before .before .before .before .before .before .before .before .before .before .before .before .if1 .left)) in
+    let b = bounds (a .q) (a .device) (a .m) (sym (c .before .before .before .before .before .before .before .before .before .before .before .before .before .is-possible .ensures) ∙ not-false (c .before .before .before .before .before .before .before .before .before .before .before .before .before .is-possible .result) (c .before .before .before .before .before .before .before .before .before .before .before .before .if1 .left)) in
     let size = length-tabulated (byteAt line) (2 * a .m) 2 in
     (b .good, omega (arith, ap length (c .before .before .before .before .before .before .before .before .gather .ensures .front), length-append (lowHigh (a .own)) (wireOf line (a .m)), size, b .values), b .place)
 
@@ -97,25 +97,25 @@ returns-3 c =
     let a = c .before .before .before .before .before .before .before .before .before .before .before .before .before .before .before .before .before .before .args in
     let line = a .line .now in
     let held = c .before .before .before .before .before .before .before .before .before .before .before .gather .ensures in
-    let can = sym (c .before .before .before .before .before .before .before .before .before .before .before .before .before .before .before .before .can-be .ensures) ∙ not-false (c .before .before .before .before .before .before .before .before .before .before .before .before .before .before .before .before .can-be .result) (c .before .before .before .before .before .before .before .before .before .before .before .before .before .before .before .if1 .left) in
+    let can = sym (c .before .before .before .before .before .before .before .before .before .before .before .before .before .before .before .before .is-possible .ensures) ∙ not-false (c .before .before .before .before .before .before .before .before .before .before .before .before .before .before .before .before .is-possible .result) (c .before .before .before .before .before .before .before .before .before .before .before .before .before .before .before .if1 .left) in
     let part = holds-behind (a .own % 256) (a .own / 256) (wireOf line (a .m)) held in
-    taken-up (a .q) (a .device) (a .own) (a .m) line _ (up-by (a .q) (a .device) (a .own) (a .m) line true can
-    (sym (c .before .before .before .before .before .before .is-met .ensures ∙ ap (λ (w : List ℕ). same line (lineOf (onTheWay (a .q) (a .device) 0 w))) part) ∙ not-false (c .before .before .before .before .before .before .is-met .result) (c .before .before .before .before .before .if2 .left)))
+    taken-up (a .q) (a .device) (a .own) (a .m) line _ (met-by (a .q) (a .device) (a .own) (a .m) line true can
+    (sym (c .before .before .before .before .before .before .is-as-left .ensures ∙ ap (λ (w : List ℕ). same line (lineOf (onTheWay (a .q) (a .device) 0 w))) part) ∙ not-false (c .before .before .before .before .before .before .is-as-left .result) (c .before .before .before .before .before .if2 .left)))
     (c .before .before .hand .ensures ∙ ap (λ (w : List ℕ). outOf (onTheWay (a .q) (suc (a .device)) 1 w) line) (held .front))
 
 pub take-up-spec : {M : Type 1} → statement M
 take-up-spec =
     tie.close
     (tie.spec
-    can-be-requires
+    is-possible-requires
     returns
     buffer-requires
     slice-aggregate-gather
     gather-requires
-    sub-is-met
-    part-is-met-start
-    part-is-met-end
-    is-met-requires
+    sub-is-as-left
+    part-is-as-left-start
+    part-is-as-left-end
+    is-as-left-requires
     same-length
     returns-2
     array-share-prefix-wire

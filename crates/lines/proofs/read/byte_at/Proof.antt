@@ -1,8 +1,8 @@
 -- `byte_at` meets its contract: its two words are byte i's, and past the end both read as 0.
-use mathlib.Core.Path.{_≡_, refl, sym, ap, ap₂, _∙_}
+use mathlib.Core.Path.{sym, ap, ap₂, _∙_}
 use Prim.Native.Nat.{ℕ, _+_, _*_, _≤_}
 use native.Mathlib.Omega.{arith}
-use lib.ListN.{length, getD, List·getD-eq-default}
+use lib.ListN.{length, List·getD-eq-default}
 use Rattle.characters.specs.Nibble.{trueBits}
 use Rattle.lines.specs.Line.{byteAt}
 use borrow.Author.Needs.{needs}

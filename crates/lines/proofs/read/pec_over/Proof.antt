@@ -7,7 +7,7 @@ use lib.ListN.{length, getD, take, drop}
 use Rattle.remainder.specs.Register.{run}
 use Rattle.remainder.proofs.Run.{run-next, run-end}
 use Rattle.pec.specs.Pec.{byteStep, pecOf}
-use Rattle.lines.specs.Line.{byteAt, byteCount, bytesOf, pecOver}
+use Rattle.lines.specs.Line.{byteCount, bytesOf, pecOver}
 use Rattle.lines.proofs.Line.{length-part, part-at}
 use Rattle.lines.proofs.read.pec_over.Statement.{statement}
 use Rattle.lines.proofs.read.pec_over.Tie as tie

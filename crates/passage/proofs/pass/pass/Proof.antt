@@ -1,10 +1,11 @@
 -- `pass` meets its contract: the device hears a question, and takes the line up only where it is that question's.
-use mathlib.Core.Path.{refl, sym, ap, _∙_}
-use mathlib.Core.Bool.{Bool, cond}
+use mathlib.Core.Path.{_≡_, refl, sym, ap, _∙_}
+use mathlib.Core.Bool.{Bool, true, false, cond}
 use borrow.Author.Tests.{not-true, not-false}
 use Rattle.writing.specs.PutLine.{outOf}
-use Rattle.underway.specs.TakeUp.{handedBytes}
-use Rattle.passage.proofs.Passing.{not-acting, no-place, can-be, acts-by, passed-by}
+use Rattle.hearing.specs.Hear.{isPlace}
+use Rattle.underway.specs.TakeUp.{handedBytes, isMet}
+use Rattle.passage.proofs.Passing.{not-acting, no-place, is-possible, acts-by, passed-by}
 use borrow.Author.Needs.{needs}
 use Rattle.passage.proofs.pass.pass.Statement.{statement}
 use Rattle.passage.proofs.pass.pass.Tie as tie
@@ -48,10 +49,10 @@ returns-2 c =
     let up = c .before .before .before .take-up in
     let q = c .before .before .before .before .before .before .before .hear .result in
     let m = c .before .before .before .before .before .carried-by .result in
-    let place = sym (c .before .before .before .before .before .before .before .before .before .before .is-place .ensures) ∙ not-false (c .before .before .before .before .before .before .before .before .before .before .is-place .result) (c .before .before .before .before .before .before .before .before .before .if1 .left) in
-    let can = can-be (a .n) (a .device) (a .registers .now) line q (c .before .before .before .before .before .before .before .hear .ensures) m (c .before .before .before .before .before .carried-by .ensures) place in
+    let place : isPlace (a .n) (a .device) ≡ true = sym (c .before .before .before .before .before .before .before .before .before .before .is-place .ensures) ∙ not-false (c .before .before .before .before .before .before .before .before .before .before .is-place .result) (c .before .before .before .before .before .before .before .before .before .if1 .left) in
+    let can = is-possible (a .n) (a .device) (a .registers .now) line q (c .before .before .before .before .before .before .before .hear .ensures) m (c .before .before .before .before .before .carried-by .ensures) place in
     let test = acts-by (a .n) (a .device) (a .registers .now) line q (c .before .before .before .before .before .before .before .hear .ensures) m (c .before .before .before .before .before .carried-by .ensures) place can in
-    let refused = sym (up .ensures .says) ∙ not-true (up .result) (c .if2 .taken) in
+    let refused : isMet q (a .device) m line ≡ false = sym (up .ensures .says) ∙ not-true (up .result) (c .if2 .taken) in
     not-acting (a .n) (a .device) (a .registers .now) line (up .last .1 .1 .1 .1 .0) (sym test ∙ refused)
     (up .ensures .leaves ∙ ap (λ (t : Bool). cond t (outOf (handedBytes q (a .device) (c .before .before .before .before .before .before .register-at .result) m line) line) line) refused)
 
@@ -68,10 +69,10 @@ returns-3 c =
     let up = c .before .before .before .before .take-up in
     let q = c .before .before .before .before .before .before .before .before .hear .result in
     let m = c .before .before .before .before .before .before .carried-by .result in
-    let place = sym (c .before .before .before .before .before .before .before .before .before .before .before .is-place .ensures) ∙ not-false (c .before .before .before .before .before .before .before .before .before .before .before .is-place .result) (c .before .before .before .before .before .before .before .before .before .before .if1 .left) in
-    let can = can-be (a .n) (a .device) (a .registers .now) line q (c .before .before .before .before .before .before .before .before .hear .ensures) m (c .before .before .before .before .before .before .carried-by .ensures) place in
+    let place : isPlace (a .n) (a .device) ≡ true = sym (c .before .before .before .before .before .before .before .before .before .before .before .is-place .ensures) ∙ not-false (c .before .before .before .before .before .before .before .before .before .before .before .is-place .result) (c .before .before .before .before .before .before .before .before .before .before .if1 .left) in
+    let can = is-possible (a .n) (a .device) (a .registers .now) line q (c .before .before .before .before .before .before .before .before .hear .ensures) m (c .before .before .before .before .before .before .carried-by .ensures) place in
     let test = acts-by (a .n) (a .device) (a .registers .now) line q (c .before .before .before .before .before .before .before .before .hear .ensures) m (c .before .before .before .before .before .before .carried-by .ensures) place can in
-    let taken = sym (up .ensures .says) ∙ not-false (up .result) (c .before .if2 .left) in
+    let taken : isMet q (a .device) m line ≡ true = sym (up .ensures .says) ∙ not-false (up .result) (c .before .if2 .left) in
     passed-by (a .n) (a .device) (a .registers .now) line q (c .before .before .before .before .before .before .before .before .hear .ensures) m (c .before .before .before .before .before .before .carried-by .ensures) place can
     (c .before .before .before .before .before .before .before .register-at .result) (up .last .1 .1 .1 .1 .0) (c .change-asked .result) (c .before .before .before .before .before .before .before .register-at .ensures) (sym test ∙ taken)
     (up .ensures .leaves ∙ ap (λ (t : Bool). cond t (outOf (handedBytes q (a .device) (c .before .before .before .before .before .before .before .register-at .result) m line) line) line) taken)

@@ -1,5 +1,5 @@
 -- `shape_of` meets its contract: each arm is the entry of its kind.
-use mathlib.Core.Path.{_≡_, sym, ap, _∙_}
+use mathlib.Core.Path.{sym, ap}
 use Prim.Native.Nat.{ℕ}
 use Rattle.questions.specs.Shape.{shapeAt, shapeOf}
 use Rattle.questions.proofs.ByKind.{last-kind}

@@ -8,12 +8,13 @@ use lib.ListN.{length, drop}
 use lib.Seq.{drop-append-seam}
 use borrow.Author.Tests.{not-true, not-false}
 use Rattle.twin.specs.Step.{standing, hops}
-use Rattle.twin.proofs.Stepping.{chain-words, turned-away, no-room, handed-on, hopped-on, hops-length}
+use Rattle.registers.proofs.Power.{chain-words}
+use Rattle.twin.proofs.Stepping.{turned-away, no-room, handed-on, hopped-on, hops-length}
 use Rattle.twin.proofs.step.run_chain.Statement.{statement}
 use Rattle.twin.proofs.step.run_chain.Tie as tie
 use Rattle.twin.proofs.step.run_chain.Reads as reads
 use Rattle.twin.proofs.step.run_chain.Lts as lts
-use Rattle.twin.proofs.chain.is_chain.Reads as is-chain-reads
+use Rattle.registers.proofs.is_chain.Reads as is-chain-reads
 use Rattle.twin.proofs.step.copy.Reads as copy-reads
 use Rattle.twin.proofs.step.hop.Reads as hop-reads
 

@@ -6,13 +6,14 @@ use lib.Dec.{ltb}
 use lib.ListN.{length, drop}
 use borrow.Author.Tests.{not-true, not-false, lt-ltb, le-ltb}
 use Rattle.twin.specs.Step.{standing, hop}
-use Rattle.twin.proofs.Stepping.{chain-words, turned-away, no-room, handed-on, hopped-on, hop-length}
+use Rattle.registers.proofs.Power.{chain-words}
+use Rattle.twin.proofs.Stepping.{turned-away, no-room, handed-on, hopped-on, hop-length}
 use borrow.Author.Needs.{needs}
 use Rattle.twin.proofs.step.step.Statement.{statement}
 use Rattle.twin.proofs.step.step.Tie as tie
 use Rattle.twin.proofs.step.step.Reads as reads
 use Rattle.twin.proofs.step.step.Lts as lts
-use Rattle.twin.proofs.chain.is_chain.Reads as is-chain-reads
+use Rattle.registers.proofs.is_chain.Reads as is-chain-reads
 use Rattle.twin.proofs.step.copy.Reads as copy-reads
 use Rattle.twin.proofs.step.hop.Reads as hop-reads
 

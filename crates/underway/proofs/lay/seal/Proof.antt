@@ -4,7 +4,8 @@ use mathlib.Core.Path.{_∙_, sym, ap}
 use mathlib.Core.List.{[], _∷_}
 use Prim.Native.Nat.{ℕ}
 use lib.ListN.{length-take}
-use Rattle.underway.proofs.Laying.{laid-then, no-alive, with-alive, sealed-laid}
+use Rattle.questions.proofs.Bytes.{alive-present, alive-absent}
+use Rattle.underway.proofs.Laying.{laid-then, sealed-laid}
 use borrow.Author.Needs.{needs}
 use Rattle.underway.proofs.lay.seal.Statement.{statement}
 use Rattle.underway.proofs.lay.seal.Tie as tie
@@ -32,7 +33,7 @@ same-length c = search needs
 returns : tie.Need-returns
 returns c =
     let a = c .before .before .before .before .before .before .before .before .before .args in
-    sealed-laid (a .q) (a .added) (a .at) (c .before .before .before .before .before .before .pec .result) [] (a .bytes .now) (omega arith) (c .before .before .before .before .before .before .pec .ensures) (no-alive (a .q) (a .added) (c .if1 .taken)) (c .before .before .before .before .push .ensures)
+    sealed-laid (a .q) (a .added) (a .at) (c .before .before .before .before .before .before .pec .result) [] (a .bytes .now) (omega arith) (c .before .before .before .before .before .before .pec .ensures) (alive-absent (a .q) (a .added) (c .if1 .taken)) (c .before .before .before .before .push .ensures)
 
 counted-up-requires : tie.Need-counted-up-requires
 counted-up-requires c κs = search needs
@@ -48,7 +49,7 @@ returns-2 c =
     let a = c .before .before .before .before .before .before .before .before .before .before .before .before .before .before .args in
     let alive = c .before .before .before .counted-up .result in
     sealed-laid (a .q) (a .added) (a .at) (c .before .before .before .before .before .before .before .before .before .before .before .pec .result) (alive ∷ []) (a .bytes .now) (omega arith) (c .before .before .before .before .before .before .before .before .before .before .before .pec .ensures)
-    (with-alive (a .q) (a .added) (c .before .before .before .before .before .if1 .left) ∙ ap (λ (x : ℕ). x ∷ []) (sym (c .before .before .before .counted-up .ensures)))
+    (alive-present (a .q) (a .added) (c .before .before .before .before .before .if1 .left) ∙ ap (λ (x : ℕ). x ∷ []) (sym (c .before .before .before .counted-up .ensures)))
     (laid-then (c .before .before .before .before .before .before .before .before .before .before .before .pec .result ∷ []) (alive ∷ []) (c .before .before .before .before .before .before .before .before .before .push .ensures) (c .before .before .push2 .ensures))
 
 pub seal-spec : {M : Type 1} → statement M

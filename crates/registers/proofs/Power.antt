@@ -1,0 +1,30 @@
+-- Power-on, turned away and done: what the two ways through the call leave.
+use mathlib.Core.Path.{_≡_, sym, ap, _∙_}
+use mathlib.Core.Bool.{Bool, true, false, cond, _&&_}
+use mathlib.Core.List.{List}
+use Prim.Native.Nat.{ℕ, _*_}
+use lib.Dec.{eqb, leb}
+use lib.ListN.{length}
+use borrow.Author.Tests.{eqb-true}
+use Rattle.ground.specs.Sweep.{tabulated}
+use Rattle.ground.proofs.Test.{and-right}
+use Rattle.registers.specs.Memory.{isChain, fresh, poweredOf, memoryOf, PoweredOn}
+use Rattle.registers.specs.declared.Powered.the-variants.{On, Twin}
+
+-- how many words the memory of a chain has
+pub chain-words : (n words : ℕ) → isChain n words ≡ true → words ≡ 256 * n
+chain-words n words chain = eqb-true words (256 * n) (and-right (leb 1 n && leb n 32) (eqb words (256 * n)) chain)
+
+pub turned-away : (n : ℕ) (memory : List ℕ) → isChain n (length memory) ≡ false → PoweredOn n memory memory Twin
+unfolding poweredOf memoryOf
+turned-away n memory chain = record {
+  says = sym (ap (λ (t : Bool). cond t On Twin) chain);
+  leaves = sym (ap (λ (t : Bool). cond t (tabulated fresh (256 * n) 0) memory) chain);
+}
+
+pub filled : (n : ℕ) (memory after : List ℕ) → isChain n (length memory) ≡ true → after ≡ tabulated fresh (length memory) 0 → PoweredOn n memory after On
+unfolding poweredOf memoryOf
+filled n memory after chain all = record {
+  says = sym (ap (λ (t : Bool). cond t On Twin) chain);
+  leaves = all ∙ ap (λ (words : ℕ). tabulated fresh words 0) (chain-words n (length memory) chain) ∙ sym (ap (λ (t : Bool). cond t (tabulated fresh (256 * n) 0) memory) chain);
+}
