@@ -13,7 +13,7 @@ use Rattle.underway.proofs.is_as_left.Statement.{statement}
 use Rattle.underway.proofs.is_as_left.Tie as tie
 use Rattle.underway.proofs.is_as_left.Reads as reads
 use Rattle.underway.proofs.is_as_left.Lts as lts
-use Rattle.underway.proofs.lay.lay.Reads as lay-reads
+use Rattle.underway.proofs.lay.Reads as lay-reads
 use Rattle.underway.proofs.buffer.Reads as buffer-reads
 use Rattle.underway.proofs.compare.is_line_of.Reads as is-line-of-reads
 

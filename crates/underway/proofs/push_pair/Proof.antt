@@ -2,11 +2,11 @@
 use mathlib.Core.List.{[], _∷_}
 use Rattle.underway.proofs.Laying.{laid-then}
 use borrow.Author.Needs.{needs}
-use Rattle.underway.proofs.lay.push_pair.Statement.{statement}
-use Rattle.underway.proofs.lay.push_pair.Tie as tie
-use Rattle.underway.proofs.lay.push_pair.Reads as reads
-use Rattle.underway.proofs.lay.push_pair.Lts as lts
-use Rattle.underway.proofs.lay.push.Reads as push-reads
+use Rattle.underway.proofs.push_pair.Statement.{statement}
+use Rattle.underway.proofs.push_pair.Tie as tie
+use Rattle.underway.proofs.push_pair.Reads as reads
+use Rattle.underway.proofs.push_pair.Lts as lts
+use Rattle.underway.proofs.push.Reads as push-reads
 
 push-requires : tie.Need-push-requires
 push-requires c κs = search needs

@@ -6,13 +6,13 @@ use Rattle.questions.specs.Bytes.{lowHigh, sealed}
 use Rattle.underway.specs.Lay.{Holds}
 use Rattle.underway.proofs.Laying.{holds-then}
 use borrow.Author.Needs.{needs}
-use Rattle.underway.proofs.lay.lay_write.Statement.{statement}
-use Rattle.underway.proofs.lay.lay_write.Tie as tie
-use Rattle.underway.proofs.lay.lay_write.Reads as reads
-use Rattle.underway.proofs.lay.lay_write.Lts as lts
-use Rattle.underway.proofs.lay.lay_head.Reads as lay-head-reads
-use Rattle.underway.proofs.lay.push_value.Reads as push-value-reads
-use Rattle.underway.proofs.lay.seal.Reads as seal-reads
+use Rattle.underway.proofs.lay_write.Statement.{statement}
+use Rattle.underway.proofs.lay_write.Tie as tie
+use Rattle.underway.proofs.lay_write.Reads as reads
+use Rattle.underway.proofs.lay_write.Lts as lts
+use Rattle.underway.proofs.lay_head.Reads as lay-head-reads
+use Rattle.underway.proofs.push_value.Reads as push-value-reads
+use Rattle.underway.proofs.seal.Reads as seal-reads
 
 lay-head-requires : tie.Need-lay-head-requires
 lay-head-requires c κs = search needs

@@ -11,12 +11,12 @@ use Rattle.ground.proofs.Sweep.{length-tabulated}
 use Rattle.lines.specs.Line.{byteAt}
 use Rattle.underway.specs.Lay.{Laid}
 use Rattle.underway.proofs.Laying.{laid-nothing}
-use Rattle.underway.proofs.lay.push_carried.Statement.{statement}
-use Rattle.underway.proofs.lay.push_carried.Tie as tie
-use Rattle.underway.proofs.lay.push_carried.Reads as reads
-use Rattle.underway.proofs.lay.push_carried.Lts as lts
+use Rattle.underway.proofs.push_carried.Statement.{statement}
+use Rattle.underway.proofs.push_carried.Tie as tie
+use Rattle.underway.proofs.push_carried.Reads as reads
+use Rattle.underway.proofs.push_carried.Lts as lts
 use Rattle.lines.proofs.read.byte_at.Reads as byte-at-reads
-use Rattle.underway.proofs.lay.push.Reads as push-reads
+use Rattle.underway.proofs.push.Reads as push-reads
 
 abbrev Inv-loop : tie.InvT-loop
 Inv-loop bytes₀ at line count end₀ i₀ bytes end i = (i ≤ count) × (length bytes ≡ length bytes₀) × Laid bytes₀ at (tabulated (byteAt line) i 2) bytes end

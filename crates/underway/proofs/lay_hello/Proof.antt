@@ -2,12 +2,12 @@
 use mathlib.Core.List.{[], _∷_}
 use Rattle.underway.proofs.Laying.{holds-then}
 use borrow.Author.Needs.{needs}
-use Rattle.underway.proofs.lay.lay_hello.Statement.{statement}
-use Rattle.underway.proofs.lay.lay_hello.Tie as tie
-use Rattle.underway.proofs.lay.lay_hello.Reads as reads
-use Rattle.underway.proofs.lay.lay_hello.Lts as lts
-use Rattle.underway.proofs.lay.lay_head.Reads as lay-head-reads
-use Rattle.underway.proofs.lay.push.Reads as push-reads
+use Rattle.underway.proofs.lay_hello.Statement.{statement}
+use Rattle.underway.proofs.lay_hello.Tie as tie
+use Rattle.underway.proofs.lay_hello.Reads as reads
+use Rattle.underway.proofs.lay_hello.Lts as lts
+use Rattle.underway.proofs.lay_head.Reads as lay-head-reads
+use Rattle.underway.proofs.push.Reads as push-reads
 
 lay-head-requires : tie.Need-lay-head-requires
 lay-head-requires c κs = search needs

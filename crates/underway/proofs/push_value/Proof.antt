@@ -3,11 +3,11 @@ use mathlib.Core.List.{[], _∷_}
 use Prim.Native.Nat.{_/_, _%_}
 use Rattle.underway.proofs.Laying.{laid-then}
 use borrow.Author.Needs.{needs}
-use Rattle.underway.proofs.lay.push_value.Statement.{statement}
-use Rattle.underway.proofs.lay.push_value.Tie as tie
-use Rattle.underway.proofs.lay.push_value.Reads as reads
-use Rattle.underway.proofs.lay.push_value.Lts as lts
-use Rattle.underway.proofs.lay.push.Reads as push-reads
+use Rattle.underway.proofs.push_value.Statement.{statement}
+use Rattle.underway.proofs.push_value.Tie as tie
+use Rattle.underway.proofs.push_value.Reads as reads
+use Rattle.underway.proofs.push_value.Lts as lts
+use Rattle.underway.proofs.push.Reads as push-reads
 
 cast-push : tie.Need-cast-push
 cast-push c = search needs

@@ -1,10 +1,10 @@
 -- `push` meets its contract: a store behind what stands.
 use Rattle.underway.proofs.Laying.{laid-one}
 use borrow.Author.Needs.{needs}
-use Rattle.underway.proofs.lay.push.Statement.{statement}
-use Rattle.underway.proofs.lay.push.Tie as tie
-use Rattle.underway.proofs.lay.push.Reads as reads
-use Rattle.underway.proofs.lay.push.Lts as lts
+use Rattle.underway.proofs.push.Statement.{statement}
+use Rattle.underway.proofs.push.Tie as tie
+use Rattle.underway.proofs.push.Reads as reads
+use Rattle.underway.proofs.push.Lts as lts
 
 slice-write-bytes : tie.Need-slice-write-bytes
 slice-write-bytes c = search needs

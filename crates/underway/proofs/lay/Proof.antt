@@ -11,14 +11,14 @@ use Rattle.questions.specs.declared.question.Question.{Question}
 use Rattle.underway.specs.Lay.{Holds}
 use Rattle.underway.proofs.Way.{way-hello, way-write, way-read}
 use borrow.Author.Needs.{needs}
-use Rattle.underway.proofs.lay.lay.Statement.{statement}
-use Rattle.underway.proofs.lay.lay.Tie as tie
-use Rattle.underway.proofs.lay.lay.Reads as reads
-use Rattle.underway.proofs.lay.lay.Lts as lts
-use Rattle.underway.proofs.lay.lay_hello.Reads as lay-hello-reads
-use Rattle.underway.proofs.lay.lay_read.Reads as lay-read-reads
-use Rattle.underway.proofs.lay.lay_write.Reads as lay-write-reads
-use Rattle.underway.proofs.lay.left_of.Reads as left-of-reads
+use Rattle.underway.proofs.lay.Statement.{statement}
+use Rattle.underway.proofs.lay.Tie as tie
+use Rattle.underway.proofs.lay.Reads as reads
+use Rattle.underway.proofs.lay.Lts as lts
+use Rattle.underway.proofs.lay_hello.Reads as lay-hello-reads
+use Rattle.underway.proofs.lay_read.Reads as lay-read-reads
+use Rattle.underway.proofs.lay_write.Reads as lay-write-reads
+use Rattle.underway.proofs.left_of.Reads as left-of-reads
 use Rattle.questions.proofs.question.shape_of.Reads as shape-of-reads
 
 -- the command byte fits a byte

@@ -7,11 +7,11 @@ use lib.ListN.{length-take}
 use Rattle.questions.proofs.Bytes.{alive-present, alive-absent}
 use Rattle.underway.proofs.Laying.{laid-then, sealed-laid}
 use borrow.Author.Needs.{needs}
-use Rattle.underway.proofs.lay.seal.Statement.{statement}
-use Rattle.underway.proofs.lay.seal.Tie as tie
-use Rattle.underway.proofs.lay.seal.Reads as reads
-use Rattle.underway.proofs.lay.seal.Lts as lts
-use Rattle.underway.proofs.lay.push.Reads as push-reads
+use Rattle.underway.proofs.seal.Statement.{statement}
+use Rattle.underway.proofs.seal.Tie as tie
+use Rattle.underway.proofs.seal.Reads as reads
+use Rattle.underway.proofs.seal.Lts as lts
+use Rattle.underway.proofs.push.Reads as push-reads
 use Rattle.pec.proofs.pec.Reads as pec-reads
 use Rattle.std.proofs.num.wrapping_add_u8.Reads as counted-up-reads
 

@@ -9,15 +9,15 @@ use Rattle.underway.specs.Lay.{Holds}
 use Rattle.underway.proofs.Laying.{holds-then}
 use Rattle.underway.proofs.Way.{sealed-most}
 use borrow.Author.Needs.{needs}
-use Rattle.underway.proofs.lay.lay_read.Statement.{statement}
-use Rattle.underway.proofs.lay.lay_read.Tie as tie
-use Rattle.underway.proofs.lay.lay_read.Reads as reads
-use Rattle.underway.proofs.lay.lay_read.Lts as lts
-use Rattle.underway.proofs.lay.lay_head.Reads as lay-head-reads
-use Rattle.underway.proofs.lay.push.Reads as push-reads
-use Rattle.underway.proofs.lay.push_all.Reads as push-all-reads
-use Rattle.underway.proofs.lay.push_pairs.Reads as push-pairs-reads
-use Rattle.underway.proofs.lay.seal.Reads as seal-reads
+use Rattle.underway.proofs.lay_read.Statement.{statement}
+use Rattle.underway.proofs.lay_read.Tie as tie
+use Rattle.underway.proofs.lay_read.Reads as reads
+use Rattle.underway.proofs.lay_read.Lts as lts
+use Rattle.underway.proofs.lay_head.Reads as lay-head-reads
+use Rattle.underway.proofs.push.Reads as push-reads
+use Rattle.underway.proofs.push_all.Reads as push-all-reads
+use Rattle.underway.proofs.push_pairs.Reads as push-pairs-reads
+use Rattle.underway.proofs.seal.Reads as seal-reads
 
 lay-head-requires : tie.Need-lay-head-requires
 lay-head-requires c κs = search needs

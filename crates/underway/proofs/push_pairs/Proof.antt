@@ -8,11 +8,11 @@ use Rattle.questions.specs.Bytes.{fillPairs}
 use Rattle.questions.proofs.Bytes.{length-pairs}
 use Rattle.underway.specs.Lay.{Laid}
 use Rattle.underway.proofs.Laying.{laid-nothing, laid-more, pairs-next}
-use Rattle.underway.proofs.lay.push_pairs.Statement.{statement}
-use Rattle.underway.proofs.lay.push_pairs.Tie as tie
-use Rattle.underway.proofs.lay.push_pairs.Reads as reads
-use Rattle.underway.proofs.lay.push_pairs.Lts as lts
-use Rattle.underway.proofs.lay.push_pair.Reads as push-pair-reads
+use Rattle.underway.proofs.push_pairs.Statement.{statement}
+use Rattle.underway.proofs.push_pairs.Tie as tie
+use Rattle.underway.proofs.push_pairs.Reads as reads
+use Rattle.underway.proofs.push_pairs.Lts as lts
+use Rattle.underway.proofs.push_pair.Reads as push-pair-reads
 
 abbrev Inv-loop : tie.InvT-loop
 Inv-loop bytes₀ at pairs end₀ i₀ bytes end i = (i ≤ pairs) × (length bytes ≡ length bytes₀) × Laid bytes₀ at (fillPairs i) bytes end

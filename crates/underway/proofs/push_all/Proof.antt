@@ -8,11 +8,11 @@ use lib.ListN.{length, getD, take}
 use lib.Seq.{take-suc, take-all, length-take-le}
 use Rattle.underway.specs.Lay.{Laid}
 use Rattle.underway.proofs.Laying.{laid-nothing, laid-more}
-use Rattle.underway.proofs.lay.push_all.Statement.{statement}
-use Rattle.underway.proofs.lay.push_all.Tie as tie
-use Rattle.underway.proofs.lay.push_all.Reads as reads
-use Rattle.underway.proofs.lay.push_all.Lts as lts
-use Rattle.underway.proofs.lay.push.Reads as push-reads
+use Rattle.underway.proofs.push_all.Statement.{statement}
+use Rattle.underway.proofs.push_all.Tie as tie
+use Rattle.underway.proofs.push_all.Reads as reads
+use Rattle.underway.proofs.push_all.Lts as lts
+use Rattle.underway.proofs.push.Reads as push-reads
 
 abbrev Inv-loop : tie.InvT-loop
 Inv-loop bytes₀ at more end₀ i₀ bytes end i = (i ≤ length more) × (length bytes ≡ length bytes₀) × Laid bytes₀ at (take i more) bytes end

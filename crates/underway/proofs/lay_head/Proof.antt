@@ -2,11 +2,11 @@
 use mathlib.Core.List.{[], _∷_}
 use Rattle.underway.proofs.Laying.{laid-holds, holds-then}
 use borrow.Author.Needs.{needs}
-use Rattle.underway.proofs.lay.lay_head.Statement.{statement}
-use Rattle.underway.proofs.lay.lay_head.Tie as tie
-use Rattle.underway.proofs.lay.lay_head.Reads as reads
-use Rattle.underway.proofs.lay.lay_head.Lts as lts
-use Rattle.underway.proofs.lay.push.Reads as push-reads
+use Rattle.underway.proofs.lay_head.Statement.{statement}
+use Rattle.underway.proofs.lay_head.Tie as tie
+use Rattle.underway.proofs.lay_head.Reads as reads
+use Rattle.underway.proofs.lay_head.Lts as lts
+use Rattle.underway.proofs.push.Reads as push-reads
 
 push-requires : tie.Need-push-requires
 push-requires c κs = search needs
