@@ -14,7 +14,6 @@ use borrow.Author.Tests.{eqb-true, leb-true}
 use Rattle.ground.specs.Sweep.{tabulated}
 use Rattle.ground.proofs.Test.{and-left, and-right, below-or-not}
 use Rattle.ground.proofs.Sweep.{length-tabulated, tabulated-at, tabulated-same}
-use Rattle.remainder.specs.Turned.{Bytes}
 use Rattle.pec.specs.Pec.{pecOf}
 use Rattle.lines.specs.Line.{lineOf, byteAt, byteCount, bytesOf, pecOver}
 use Rattle.lines.proofs.Line.{length-bytes, bytes-at, bytes-bytes, byte-lt}
@@ -33,7 +32,7 @@ use Rattle.readings.specs.declared.Reading.the-variants.{Counted, Written, Valu
 use Rattle.reader.specs.Read.{valueAt, valuesOn}
 use Rattle.judging.proofs.Accepted.{Taken, taken-settles, accepted-takes}
 use Rattle.contents.proofs.RowLaws.{other-pec, some-alive, read-check, hello-settled, write-settled, read-settled, count-right}
-use Rattle.acceptance.specs.Answer.{Registers, Fitting, Answered}
+use Rattle.acceptance.specs.Answer.{Registers, Answered}
 use Rattle.acceptance.specs.Answer.Fitting.{hello, write, read}
 use Rattle.acceptance.proofs.Wire.{length-wire, valueIn, wire-read}
 use Rattle.acceptance.proofs.Sealed.{is-sealed}

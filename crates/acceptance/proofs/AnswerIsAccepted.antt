@@ -21,7 +21,7 @@ use Rattle.questions.specs.Bytes.{lowHigh, onWire, aliveByte, sealed, writeCove
 use Rattle.questions.specs.declared.question.Question.{Question}
 use Rattle.questions.proofs.ByKind.{of-hello, of-write, of-read}
 use Rattle.questions.proofs.Good.{good-alive, good-first, hello-shape, write-shape, read-shape}
-use Rattle.readings.specs.Reading.{valuesTaken}
+use Rattle.readings.specs.Reading.{numberOf, valuesTaken}
 use Rattle.contents.specs.Rows.{echoed, pecRight, aliveRight, checkByte, settledCount}
 use Rattle.judging.specs.Judge.{judgeOf}
 use Rattle.reader.specs.Read.{valueAt, valuesOn}
@@ -275,3 +275,9 @@ module _ (q : Question) (good : goodQuestion q ≡ true) (s : Sendable q) (room 
           subst (λ (v : List ℕ). ReadsAs v (lineOf (answerBytes q v 0))) (sym (c .only)) (hello-reads-as e (c .count) (c .least) (c .most))
       by-form (write lo hi none) = subst (λ (v : List ℕ). ReadsAs v (lineOf (answerBytes q v 0))) (sym none) (write-reads-as lo hi)
       by-form (read lo hi all) = read-reads-as lo values all
+
+-- the reading of a right answer is an accepted one
+pub accepted-reading : (q : Question) (values : List ℕ) → Fitting q values → numberOf (readingOf q values) ≡ 0
+accepted-reading q values (hello e c) = ap numberOf (of-hello (q .kind) _ _ _ e)
+accepted-reading q values (write lo hi e) = ap numberOf (of-write (q .kind) _ _ _ lo hi)
+accepted-reading q values (read lo hi all) = ap numberOf (of-read (q .kind) _ _ _ lo)

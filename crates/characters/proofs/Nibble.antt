@@ -1,7 +1,8 @@
 -- Laws of nibbles and their words: decoding inverts encoding, and two nibbles' words differ in twice as many bits as the nibbles.
 use mathlib.Core.Path.{_≡_, refl, sym, ap, _∙_}
 use mathlib.Core.Bool.{Bool, true, false, cond, _&&_, true≢false}
-use Prim.Native.Nat.{ℕ, zero, suc, _*_, _<_}
+use Prim.Native.Nat.{ℕ, zero, suc, _+_, _*_, _/_, _^_, _<_}
+use native.Mathlib.Nat.{mod-lt, zero-lt-suc}
 use native.Mathlib.Omega.{arith}
 use lib.Bits.{bitXor}
 use lib.Count.{ones, onesIn}
@@ -10,8 +11,8 @@ use borrow.Author.Tests.{eqb-true, eq-eqb}
 use Rattle.ground.specs.Sweep.{every}
 use Rattle.ground.proofs.Test.{and-left, and-right}
 use Rattle.ground.proofs.Sweep.{swept}
-use Rattle.characters.specs.Character.{wordOf, preamble, stop}
-use Rattle.characters.specs.Nibble.{nibbleWord, among, decode, isOne, isNibble, trueBits}
+use Rattle.characters.specs.Character.{bit, parityBit, wordOf, preamble, stop}
+use Rattle.characters.specs.Nibble.{followed, nibbleData, nibbleWord, among, decode, isOne, isNibble, trueBits}
 use Rattle.characters.specs.declared.Decoded.{Decoded}
 use Rattle.characters.specs.declared.Decoded.the-variants.{Nibble, Nothing}
 
@@ -107,3 +108,27 @@ unfolding doubled
 word-distance a b ha hb =
     eqb-true (ones (bitXor (nibbleWord a) (nibbleWord b))) (2 * ones (bitXor a b))
     (swept (doubled a) 16 (swept (λ a. every (doubled a) 16) 16 all-doubled a ha) b hb)
+
+-- ---- the word of any number is a word
+
+followed-lt : (b : ℕ) → b < 2 → followed b < 3
+followed-lt b h = omega arith
+
+data-lt : (a b c d : ℕ) → a < 3 → b < 3 → c < 3 → d < 3 → a + 4 * b + 16 * c + 64 * d < 256
+data-lt a b c d = λ ha hb hc hd. omega arith
+
+word-lt : (d p : ℕ) → d < 256 → p < 2 → d * 2 + p * 2 ^ 9 + 2 ^ 10 + 2 ^ 11 < 65536
+word-lt d p = λ hd hp. omega arith
+
+bit-lt : (k n : ℕ) → bit k n < 2
+bit-lt zero n = omega arith
+bit-lt (suc k) n = mod-lt (n / 2 ^ suc k) (zero-lt-suc 1)
+
+pub nibble-word-lt : (n : ℕ) → nibbleWord n < 65536
+unfolding nibbleWord wordOf
+nibble-word-lt n =
+    let eight = nibbleData n in
+    word-lt eight (parityBit eight)
+    (data-lt (followed (bit 0 n)) (followed (bit 1 n)) (followed (bit 2 n)) (followed (bit 3 n)) (followed-lt (bit 0 n) (bit-lt 0 n))
+    (followed-lt (bit 1 n) (bit-lt 1 n)) (followed-lt (bit 2 n) (bit-lt 2 n)) (followed-lt (bit 3 n) (bit-lt 3 n)))
+    (mod-lt (bit 0 eight + bit 1 eight + bit 2 eight + bit 3 eight + bit 4 eight + bit 5 eight + bit 6 eight + bit 7 eight) (zero-lt-suc 1))

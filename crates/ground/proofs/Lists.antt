@@ -1,12 +1,12 @@
 -- Laws of lists that the library lacks.
-use mathlib.Core.Path.{_≡_, sym, ap, ap₂, _∙_}
+use mathlib.Core.Path.{_≡_, refl, sym, ap, ap₂, _∙_}
 use mathlib.Core.List.{List, [], _∷_, _++_, append-assoc, append-nil}
-use Prim.Native.Nat.{ℕ, zero, suc, _+_, _≤_, _<_}
-use native.Mathlib.Nat.{add-zero, add-suc, suc-add, zero-add}
+use Prim.Native.Nat.{ℕ, zero, suc, _+_, _-_, _≤_, _<_}
+use native.Mathlib.Nat.{add-zero, add-suc, suc-add, zero-add, le-of-suc-le-suc, not-suc-le-zero}
 use native.Mathlib.Numerals.{add-one}
 use native.Mathlib.Omega.{arith}
-use lib.ListN.{length, getD, take, drop, set, drop-of-length-le}
-use lib.Seq.{sets, sets-eq, take-suc, ext-getD}
+use lib.ListN.{length, getD, take, drop, set, length-drop, drop-of-length-le}
+use lib.Seq.{sets, sets-eq, take-suc, take-all, ext-getD}
 use Rattle.ground.specs.Sweep.{tabulated}
 use Rattle.ground.proofs.Sweep.{length-tabulated, tabulated-at}
 
@@ -43,6 +43,19 @@ filled-next f l k =
     ∙ ap₂ (λ (at from : ℕ). set (sets l 0 (tabulated f k 0)) at (f from)) (zero-add (length (tabulated f k 0)) ∙ length-tabulated f k 0)
     (zero-add k))
 
+-- a table from its second place on
+pub tabulated-shift : (f : ℕ → ℕ) (n i : ℕ) → tabulated f n (suc i) ≡ tabulated (λ (k : ℕ). f (suc k)) n i
+tabulated-shift f zero i = refl
+tabulated-shift f (suc n) i = ap (λ (l : List ℕ). f (suc i) ∷ l) (tabulated-shift f n (suc i))
+
+-- the front of a list, entry by entry
+pub tabulated-front : (k : ℕ) (l : List ℕ) → k ≤ length l → l ≡ tabulated (λ (i : ℕ). getD l i 0) k 0 ++ drop k l
+tabulated-front zero l h = refl
+tabulated-front (suc k) [] h = absurd (not-suc-le-zero h)
+tabulated-front (suc k) (x ∷ l) h =
+    ap (λ (r : List ℕ). x ∷ r)
+    (tabulated-front k l (le-of-suc-le-suc h) ∙ ap (λ (r : List ℕ). r ++ drop k l) (sym (tabulated-shift (λ (i : ℕ). getD (x ∷ l) i 0) k 0)))
+
 -- two more of a list
 pub take-two : (l : List ℕ) (k : ℕ) → suc k < length l → take (suc (suc k)) l ≡ take k l ++ (getD l k 0 ∷ getD l (suc k) 0 ∷ [])
 take-two l k h =
@@ -63,3 +76,7 @@ tabulated-own l =
     let own : ℕ → ℕ = λ k. getD l k 0 in
     ext-getD 0 (tabulated own (length l) 0) l (length-tabulated own (length l) 0)
     (λ i h. tabulated-at own (length l) 0 i (omega (arith, length-tabulated own (length l) 0)) ∙ ap own (zero-add i))
+
+-- a part up to the end
+pub part-to-end : {A : Type 0} (l : List A) (at : ℕ) → take (length l - at) (drop at l) ≡ drop at l
+part-to-end l at = take-all (length l - at) (drop at l) (omega (arith, length-drop at l))

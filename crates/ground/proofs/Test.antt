@@ -32,3 +32,8 @@ below-or-not a b = by-test (ltb a b) refl
     by-test : (t : Bool) → ltb a b ≡ t → (a < b) ⊎ (b ≤ a)
     by-test true e = inl (ltb-true a b e)
     by-test false e = inr (ltb-false a b e)
+
+-- a test that cannot have come out true
+pub refuted : (t : Bool) → (t ≡ true → ⊥) → t ≡ false
+refuted true never = absurd (never refl)
+refuted false never = refl

@@ -1,7 +1,7 @@
 -- Laws of a line written from bytes: its length, its words and its bytes.
 use mathlib.Core.Path.{_≡_, refl, ap, ap₂, _∙_, subst}
 use mathlib.Core.Logic.{⊎-elim}
-use mathlib.Core.List.{List, [], _∷_}
+use mathlib.Core.List.{List, [], _∷_, _++_}
 use Prim.Native.Nat.{ℕ, zero, suc, min, _+_, _*_, _/_, _%_, _≤_, _<_}
 use native.Mathlib.Nat.{not-suc-le-zero, zero-add}
 use native.Mathlib.Numerals.{one-add}
@@ -13,7 +13,7 @@ use Rattle.ground.proofs.Sweep.{tabulated-at, length-tabulated}
 use Rattle.remainder.specs.Turned.{Bytes}
 use Rattle.characters.specs.Character.{stop}
 use Rattle.characters.specs.Nibble.{nibbleWord, trueBits}
-use Rattle.characters.proofs.Nibble.{true-bits-of, true-bits-lt}
+use Rattle.characters.proofs.Nibble.{true-bits-of, true-bits-lt, nibble-word-lt}
 use Rattle.lines.specs.Line.{charactersOf, lineOf, byteAt, byteCount, bytesOf}
 
 pub length-characters : (bytes : List ℕ) → length (charactersOf bytes) ≡ 2 * length bytes
@@ -118,3 +118,17 @@ by-place P n first low high last (suc k) h = by-digit (k % 2) refl
         (λ ge. let at : 1 + 2 * n ≡ suc k = omega arith in subst P at last) (below-or-not (k / 2) n)
     by-digit (suc zero) e = let at : 2 + 2 * (k / 2) ≡ suc k = omega arith in subst P at (high (k / 2) (omega arith))
     by-digit (suc (suc d)) e = absurd (omega arith)
+
+-- the words of a line are words
+characters-wide : (bytes : List ℕ) (i : ℕ) → getD (charactersOf bytes ++ (stop ∷ [])) i 0 < 65536
+unfolding charactersOf
+characters-wide [] zero = omega arith
+characters-wide [] (suc i) = omega arith
+characters-wide (b ∷ bytes) zero = nibble-word-lt (b % 16)
+characters-wide (b ∷ bytes) (suc zero) = nibble-word-lt (b / 16)
+characters-wide (b ∷ bytes) (suc (suc i)) = characters-wide bytes i
+
+pub line-wide : (bytes : List ℕ) (i : ℕ) → getD (lineOf bytes) i 0 < 65536
+unfolding lineOf
+line-wide bytes zero = omega arith
+line-wide bytes (suc i) = characters-wide bytes i

@@ -13,23 +13,15 @@ use Rattle.questions.specs.Question.{goodQuestion}
 use Rattle.questions.specs.Shape.{shapeOf}
 use Rattle.commands.specs.Command.{commandLine}
 use Rattle.questions.specs.declared.question.Question.{Question}
-use Rattle.questions.proofs.ByKind.{of-hello, of-write, of-read}
 use Rattle.readings.specs.Reading.{numberOf}
 use Rattle.reader.specs.Read.{ReadDone}
 use Rattle.readings.specs.declared.Reading.{Reading}
 use Rattle.judging.proofs.Accepted.{accepted-takes}
-use Rattle.acceptance.specs.Answer.{Fitting, AnswerTo, Sendable, readingOf}
-use Rattle.acceptance.specs.Answer.Fitting.{hello, write, read}
+use Rattle.acceptance.specs.Answer.{AnswerTo, Sendable}
 use Rattle.acceptance.proofs.Lengths.{command-words, words-most}
 use Rattle.acceptance.proofs.AcceptedIsAnAnswer.{accepted-is-an-answer}
-use Rattle.acceptance.proofs.AnswerIsAccepted.{answer-is-accepted}
+use Rattle.acceptance.proofs.AnswerIsAccepted.{answer-is-accepted, accepted-reading}
 use Rattle.promises.specs.Acceptance.{Accepted, Due, With}
-
--- the reading of a right answer is an accepted one
-accepted-reading : (q : Question) (values : List ℕ) → Fitting q values → numberOf (readingOf q values) ≡ 0
-accepted-reading q values (hello e c) = ap numberOf (of-hello (q .kind) _ _ _ e)
-accepted-reading q values (write lo hi e) = ap numberOf (of-write (q .kind) _ _ _ lo hi)
-accepted-reading q values (read lo hi all) = ap numberOf (of-read (q .kind) _ _ _ lo)
 
 module _ (q : Question) (line before after : List ℕ) (r : Reading) (done : ReadDone q line before after r) where
   -- What is accepted was due, and is handed out with the values of that answer.

@@ -1,5 +1,6 @@
--- Demand 1: a call that is turned away has written nothing into lent memory. Of the reader, of the command writer and of the twin's calls,
--- for every question, every line, every memory and every output, whichever row turned it away.
+-- Demand 1: a call that is turned away has written nothing into lent memory. Of the reader, of the command writer, of the twin's calls, of
+-- the certificate and of the rehearsal, for every question, every line, every file, every memory and every output, whichever row turned it
+-- away.
 use mathlib.Core.Path.{_≡_, refl, sym, ap, _∙_}
 use mathlib.Core.Bool.{Bool, true, false, cond}
 use mathlib.Core.List.{List}
@@ -24,6 +25,13 @@ use Rattle.registers.specs.declared.Powered.{Powered}
 use Rattle.registers.specs.declared.Powered.the-variants as powered
 use Rattle.twin.specs.declared.step.Stepped.{Stepped}
 use Rattle.twin.specs.declared.step.Stepped.the-variants as stepped
+use Rattle.jobs.specs.Check.{goodFile}
+use Rattle.certificate.specs.Certificate.{certificateOf, certifiedOf, textAfter, CertificateDone, certifiedNumber}
+use Rattle.certificate.specs.declared.Certified.{Certified}
+use Rattle.certificate.specs.declared.Certified.the-variants as certified
+use Rattle.rehearsal.specs.Rehearsal.{rehearsalOf, rehearsedOf, outAfter, RehearsalDone, rehearsedNumber}
+use Rattle.rehearsal.specs.declared.Rehearsed.{Rehearsed}
+use Rattle.rehearsal.specs.declared.Rehearsed.the-variants as rehearsed
 use Rattle.promises.specs.Damage.{TurnedAway}
 
 -- a reading of a line turned away carries no values
@@ -68,3 +76,32 @@ refused-step fits before after out outAfter memoryLeft r done away =
     by-tests true true e = absurd (omega arith)
     by-tests true false e = (refl, refl)
     by-tests false room e = (refl, refl)
+
+-- the certificate
+pub refused-certificate : (file before after : List ℕ) (r : Certified) → CertificateDone file before after r → 1 ≤ certifiedNumber r → after ≡ before
+unfolding certifiedOf textAfter
+refused-certificate file before after r done away =
+    done .leaves ∙ by-tests (goodFile file) (leb (length (certificateOf file)) (length before)) (ap certifiedNumber (done .says))
+  where
+    by-tests : (good room : Bool)
+        → certifiedNumber r ≡ certifiedNumber (cond good (cond room (certified.Bytes (length (certificateOf file))) certified.Room) certified.File)
+        → cond good (cond room (atFront (certificateOf file) before) before) before ≡ before
+    by-tests true true e = absurd (omega arith)
+    by-tests true false e = refl
+    by-tests false room e = refl
+
+-- the rehearsal
+pub refused-rehearsal : (file before after : List ℕ) (r : Rehearsed) → RehearsalDone file before after r → 1 ≤ rehearsedNumber r → after ≡ before
+unfolding rehearsedOf outAfter
+refused-rehearsal file before after r done away =
+    done .leaves
+    ∙ by-tests (goodFile file) (leb (length (rehearsalOf file)) 65536) (leb (length (rehearsalOf file)) (length before)) (ap rehearsedNumber (done .says))
+  where
+    by-tests : (good short room : Bool)
+        → rehearsedNumber r
+        ≡ rehearsedNumber (cond good (cond short (cond room (rehearsed.Bytes (length (rehearsalOf file))) rehearsed.Room) rehearsed.File) rehearsed.File)
+        → cond good (cond short (cond room (atFront (rehearsalOf file) before) before) before) before ≡ before
+    by-tests true true true e = absurd (omega arith)
+    by-tests true true false e = refl
+    by-tests true false room e = refl
+    by-tests false short room e = refl

@@ -2,61 +2,35 @@
 -- `write_command` writes, through all devices by `run_chain`, is the right answer for the registers as they stand; `read` accepts it and hands
 -- out each device's register in address order; after WRITEALL every device holds the value (register 0x00 excepted), after WRITEDEVICE
 -- exactly that one; reads and HELLOALL change no register. Of every answer that meets the three contracts, and so of the three functions.
-use mathlib.Core.Path.{_≡_, ap, ap₂, _∙_, subst}
-use mathlib.Core.Bool.{Bool, true, cond}
+use mathlib.Core.Path.{_≡_, ap, _∙_, subst}
+use mathlib.Core.Bool.{true}
 use mathlib.Core.List.{List}
 use Prim.Native.Nat.{ℕ, _*_, _≤_}
 use lib.Dec.{leb, eqb}
 use lib.ListN.{length, take, drop}
 use lib.Seq.{take-append-seam, take-at}
-use borrow.Author.Tests.{leb-true, le-leb}
+use borrow.Author.Tests.{leb-true}
 use Rattle.ground.proofs.Test.{and-left, and-right}
-use Rattle.lines.specs.Write.{atFront}
 use Rattle.questions.specs.Question.{goodQuestion}
 use Rattle.questions.specs.Shape.{shapeOf}
-use Rattle.commands.specs.Command.{commandLine, commandOut, CommandPut}
+use Rattle.commands.specs.Command.{commandLine, CommandPut}
 use Rattle.commands.specs.declared.Issued.{Issued}
 use Rattle.questions.specs.declared.question.Question.{Question}
 use Rattle.readings.specs.declared.Reading.{Reading}
 use Rattle.reader.specs.Read.{ReadDone}
 use Rattle.acceptance.specs.Answer.{Registers, Sendable}
 use Rattle.registers.specs.Memory.{isChain}
-use Rattle.twin.specs.Step.{Standing, standing, hops, steppedOf, outOf, memoryAfter, Done, ChainDone}
+use Rattle.twin.specs.Step.{standing, hops, ChainDone}
 use Rattle.twin.specs.declared.step.Stepped.{Stepped}
-use Rattle.twin.specs.declared.step.Stepped.the-variants.{Handed, Twin, Room}
 use Rattle.registers.proofs.Power.{chain-words}
-use Rattle.twin.proofs.Stepping.{hops-length}
+use Rattle.commands.proofs.Issuing.{command-written}
+use Rattle.twin.proofs.Stepping.{says-handed, leaves-line, leaves-memory, hops-length}
 use Rattle.roundtrip.specs.Between.{held, broughtBack}
 use Rattle.roundtrip.proofs.RoundTrip.{right-answer}
 use Rattle.roundtrip.proofs.RegistersAfter.{held-after}
 use Rattle.promises.specs.Acceptance.{Accepted, With}
 use Rattle.promises.specs.Trip.{Trip, WholeTrip}
 use Rattle.promises.proofs.Demand2.{always-then}
-
--- what `write_command` leaves of a good question, where there is room
-pub command-written : (q : Question) (before after : List ℕ) (r : Issued) → CommandPut q before after r → goodQuestion q ≡ true
-    → length (commandLine q) ≤ length before → after ≡ atFront (commandLine q) before
-unfolding commandOut
-command-written q before after r done good room =
-    done .leaves ∙ ap₂ (λ (t u : Bool). cond t (cond u (atFront (commandLine q) before) before) before) good (le-leb (length (commandLine q)) (length before) room)
-
--- a call that fits and has room
-module _ (before after : Standing) (out outAfter memoryLeft : List ℕ) (r : Stepped) (fits : Bool) (done : Done fits before after out outAfter memoryLeft r)
-    (good : fits ≡ true) (room : length (before .line) ≤ length out) where
-  enough : leb (length (before .line)) (length out) ≡ true
-  enough = le-leb (length (before .line)) (length out) room
-
-  says-handed : r ≡ Handed
-  unfolding steppedOf
-  says-handed = done .says ∙ ap₂ (λ (t u : Bool). cond t (cond u Handed Room) Twin) good enough
-
-  leaves-line : outAfter ≡ atFront (after .line) out
-  unfolding outOf
-  leaves-line = done .leaves ∙ ap₂ (λ (t u : Bool). cond t (cond u (atFront (after .line) out) out) out) good enough
-
-  leaves-memory : memoryLeft ≡ after .memory
-  unfolding memoryAfter
-  leaves-memory = done .remembers ∙ ap₂ (λ (t u : Bool). cond t (cond u (after .memory) (before .memory)) (before .memory)) good enough
 
 module _ (q : Question) (good : goodQuestion q ≡ true) (sends : Sendable q) (n : ℕ) (chain : 1 ≤ q .kind → q .n ≡ n) (memory : List ℕ)
     (is-chain : isChain n (length memory) ≡ true) (words : Registers memory) where

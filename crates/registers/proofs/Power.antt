@@ -2,13 +2,14 @@
 use mathlib.Core.Path.{_≡_, sym, ap, _∙_}
 use mathlib.Core.Bool.{Bool, true, false, cond, _&&_}
 use mathlib.Core.List.{List}
-use Prim.Native.Nat.{ℕ, _*_}
+use Prim.Native.Nat.{ℕ, _*_, _<_}
+use native.Mathlib.Omega.{arith}
 use lib.Dec.{eqb, leb}
 use lib.ListN.{length}
 use borrow.Author.Tests.{eqb-true}
 use Rattle.ground.specs.Sweep.{tabulated}
 use Rattle.ground.proofs.Test.{and-right}
-use Rattle.registers.specs.Memory.{isChain, fresh, poweredOf, memoryOf, PoweredOn}
+use Rattle.registers.specs.Memory.{isChain, figure, fresh, poweredOf, memoryOf, PoweredOn}
 use Rattle.registers.specs.declared.Powered.the-variants.{On, Twin}
 
 -- how many words the memory of a chain has
@@ -28,3 +29,21 @@ filled n memory after chain all = record {
   says = sym (ap (λ (t : Bool). cond t On Twin) chain);
   leaves = all ∙ ap (λ (words : ℕ). tabulated fresh words 0) (chain-words n (length memory) chain) ∙ sym (ap (λ (t : Bool). cond t (tabulated fresh (256 * n) 0) memory) chain);
 }
+
+-- power-on's figures are registers' values
+either-lt : (t : Bool) (a b : ℕ) → a < 65536 → b < 65536 → cond t a b < 65536
+either-lt true a b ha hb = ha
+either-lt false a b ha hb = hb
+
+pub figure-lt : (r : ℕ) → figure r < 65536
+unfolding figure
+figure-lt r =
+    either-lt (eqb r 0x00) 0x8236 _ (omega arith)
+    (either-lt (eqb r 0x02) 0x8000 _ (omega arith)
+    (either-lt (eqb r 0x0A) 0x0F0F _ (omega arith)
+    (either-lt (eqb r 0x10) 0x0002 _ (omega arith)
+    (either-lt (eqb r 0x1E) 0x000C _ (omega arith)
+    (either-lt (eqb r 0x40) 0xFFFC _ (omega arith)
+    (either-lt (eqb r 0x42) 0xFFFC _ (omega arith)
+    (either-lt (eqb r 0x48) 0xFFFC _ (omega arith)
+    (either-lt (eqb r 0x4A) 0xFFF0 0x0000 (omega arith) (omega arith)))))))))

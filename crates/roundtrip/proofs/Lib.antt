@@ -1,5 +1,5 @@
 mod Alike
-mod Values
+pub mod Values
 mod HeardBack
 mod Acting
 pub mod LineBetween

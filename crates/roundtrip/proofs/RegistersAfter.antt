@@ -1,15 +1,15 @@
 -- What each register holds after the trip: a write's value in the register of each device that it is put to, register 0x00 excepted; and
 -- every other register what it held. Reads and HELLOALL change none.
-use mathlib.Core.Path.{_≡_, refl, sym, ap, ap₂, _∙_}
+use mathlib.Core.Path.{_≡_, refl, sym, ap, ap₂, subst, _∙_}
 use mathlib.Core.Bool.{Bool, true, false, cond, _&&_, not, false≢true}
 use mathlib.Core.Logic.{⊎-elim}
 use mathlib.Core.List.{List}
-use Prim.Native.Nat.{ℕ, _*_, _≤_, _<_}
+use Prim.Native.Nat.{ℕ, _+_, _*_, _/_, _%_, _≤_, _<_}
 use native.Mathlib.Nat.{eq-zero-or-pos}
 use native.Mathlib.Omega.{arith}
 use lib.Dec.{eqb}
-use lib.ListN.{length, getD, drop, set, length-take, length-drop}
-use lib.Seq.{getD-set-same, getD-set-other}
+use lib.ListN.{length, getD, drop, set, length-take, length-drop, List·getD-eq-default}
+use lib.Seq.{getD-set-same, getD-set-other, getD-take, getD-drop}
 use borrow.Author.Tests.{eqb-true, eq-eqb, ne-eqb}
 use Rattle.ground.proofs.Test.{below-or-not}
 use Rattle.questions.specs.Question.{byForm, goodQuestion, covers}
@@ -22,6 +22,8 @@ use Rattle.passage.specs.declared.pass.Change.{Change}
 use Rattle.passage.specs.declared.pass.Change.the-variants.{Nothing, Store}
 use Rattle.twin.specs.Step.{registersOf, standing, hops}
 use Rattle.roundtrip.specs.Between.{held, writeReaches, reaches}
+use Rattle.twin.proofs.Stepping.{hops-memory}
+use Rattle.roundtrip.proofs.Values.{held-lt}
 use Rattle.roundtrip.proofs.RoundTrip.{registers-after}
 
 -- a register file of 256
@@ -102,3 +104,23 @@ module _ (q : Question) (good : goodQuestion q ≡ true) (sends : Sendable q) (n
   held-after k r h =
       ap (λ (l : List ℕ). getD l r 0) (registers-after q good sends n chain least most memory words k h)
       ∙ by-change q (registersOf memory k) (file-length memory n k size h) (sends .reg) r k
+
+  -- every word is still a register's value
+  pub still-registers : Registers (hops n n (standing memory (commandLine q)) .memory)
+  still-registers i =
+      let after = hops n n (standing memory (commandLine q)) .memory in
+      let wide : length after ≡ 256 * n = hops-memory n n (standing memory (commandLine q)) ∙ size in
+      let k = i / 256 in
+      let r = i % 256 in
+      let there : 256 * k + r ≡ i = omega arith in
+      ⊎-elim
+      (λ (inside : i < 256 * n).
+      let same : getD after i 0 ≡ held after k r =
+      sym (getD-take 256 (drop (256 * k) after) r 0 (omega arith) ∙ getD-drop (256 * k) after r 0 ∙ ap (λ (j : ℕ). getD after j 0) there) in
+      subst (λ (v : ℕ). v < 65536) (sym (same ∙ held-after k r (omega arith))) (either (reaches q k r) (held memory k r) (held-lt memory words k r (omega arith))))
+      (λ (beyond : 256 * n ≤ i). subst (λ (v : ℕ). v < 65536) (sym (List·getD-eq-default after 0 (omega (arith, wide)))) (omega arith))
+      (below-or-not i (256 * n))
+    where
+      either : (t : Bool) (v : ℕ) → v < 65536 → cond t (q .value) v < 65536
+      either true v h = sends .value
+      either false v h = h

@@ -2,14 +2,17 @@
 use mathlib.Core.Path.{_≡_, refl, sym, ap, ap₂, _∙_}
 use mathlib.Core.Bool.{Bool, true, false, cond}
 use mathlib.Core.List.{List, _++_}
-use Prim.Native.Nat.{ℕ, zero, suc, _+_, _≤_, _<_}
+use Prim.Native.Nat.{ℕ, zero, suc, _+_, _*_, _≤_, _<_}
 use lib.Dec.{leb}
-use lib.ListN.{length, take, drop}
+use lib.ListN.{length, take, drop, length-set}
 use lib.Seq.{take-at, drop-at}
 use borrow.Author.Tests.{le-leb, lt-leb}
 use Rattle.lines.specs.Write.{atFront}
+use Rattle.passage.specs.Pass.{changeOf}
+use Rattle.passage.specs.declared.pass.Change.{Change}
+use Rattle.passage.specs.declared.pass.Change.the-variants.{Nothing, Store}
 use Rattle.passage.proofs.EqualLength.{length-handed}
-use Rattle.twin.specs.Step.{registersOf, Standing, standing, hop, hops, Hopped, steppedOf, outOf, memoryAfter, Done}
+use Rattle.twin.specs.Step.{registersOf, withChange, Standing, standing, hop, hops, Hopped, steppedOf, outOf, memoryAfter, Done}
 use Rattle.twin.specs.declared.step.Stepped.{Stepped}
 use Rattle.twin.specs.declared.step.Stepped.the-variants.{Handed, Twin, Room}
 
@@ -50,6 +53,25 @@ module _ (fits : Bool) (before after : Standing) (out : List ℕ) where
         remembers = remembers ∙ sym (ap₂ (λ (t u : Bool). cond t (cond u (after .memory) (before .memory)) (before .memory)) e fit);
       }
 
+-- ---- a call that fits and has room
+
+module _ (before after : Standing) (out outAfter memoryLeft : List ℕ) (r : Stepped) (fits : Bool) (done : Done fits before after out outAfter memoryLeft r)
+    (good : fits ≡ true) (room : length (before .line) ≤ length out) where
+  enough : leb (length (before .line)) (length out) ≡ true
+  enough = le-leb (length (before .line)) (length out) room
+
+  pub says-handed : r ≡ Handed
+  unfolding steppedOf
+  says-handed = done .says ∙ ap₂ (λ (t u : Bool). cond t (cond u Handed Room) Twin) good enough
+
+  pub leaves-line : outAfter ≡ atFront (after .line) out
+  unfolding outOf
+  leaves-line = done .leaves ∙ ap₂ (λ (t u : Bool). cond t (cond u (atFront (after .line) out) out) out) good enough
+
+  pub leaves-memory : memoryLeft ≡ after .memory
+  unfolding memoryAfter
+  leaves-memory = done .remembers ∙ ap₂ (λ (t u : Bool). cond t (cond u (after .memory) (before .memory)) (before .memory)) good enough
+
 -- ---- a hop on words that hold the line in front
 
 module _ (n k : ℕ) (s : Standing) (rest : List ℕ) where
@@ -70,3 +92,14 @@ pub hops-length : (n m : ℕ) (s : Standing) → length (hops n m s .line) ≡ l
 unfolding hops
 hops-length n zero s = refl
 hops-length n (suc m) s = hop-length n m (hops n m s) ∙ hops-length n m s
+
+-- and no device changes how many registers there are
+with-change-length : (memory : List ℕ) (k : ℕ) (c : Change) → length (withChange memory k c) ≡ length memory
+with-change-length memory k Nothing = refl
+with-change-length memory k (Store r v) = length-set memory (256 * k + r) v
+
+pub hops-memory : (n m : ℕ) (s : Standing) → length (hops n m s .memory) ≡ length (s .memory)
+unfolding hops
+hops-memory n zero s = refl
+hops-memory n (suc m) s =
+    with-change-length (hops n m s .memory) m (changeOf n m (hops n m s .line)) ∙ hops-memory n m s

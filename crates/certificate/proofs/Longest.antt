@@ -1,0 +1,66 @@
+-- THE LONGEST CERTIFICATE. Memory of 82,143 bytes holds the certificate of every job file: 9 bytes for the first line, 10 for each of 8,191
+-- entries, 7 for each of 32 devices.
+use mathlib.Core.Path.{_≡_, refl}
+use mathlib.Core.Bool.{Bool, true, false, cond}
+use mathlib.Core.List.{List, [], _∷_}
+use Prim.Native.Nat.{ℕ, zero, suc, _≤_, _<_}
+use native.Mathlib.Omega.{arith}
+use lib.Dec.{leb}
+use lib.ListN.{length, getD}
+use borrow.Author.Tests.{leb-true}
+use Rattle.readings.specs.Reading.{refusalNumber, numberOf}
+use Rattle.readings.specs.declared.Refusal.{Refusal}
+use Rattle.readings.specs.declared.Refusal.the-variants.{Question, Room, Length, Character, Frame, Manchester, Echo, Pec, Alive, Check, Count}
+use Rattle.readings.specs.declared.Reading.{Reading}
+use Rattle.readings.specs.declared.Reading.the-variants.{Counted, Written, Values, Refused}
+use Rattle.jobs.specs.Check.{headerIn, goodFile}
+use Rattle.jobs.proofs.Entries.{parts, header-most}
+use Rattle.letters.specs.Letters.{Heard}
+use Rattle.printing.proofs.Lengths.{longest}
+use Rattle.certificate.specs.declared.Certified.the-variants.{Bytes, File}
+use Rattle.certificate.specs.declared.Certified.the-variants as certified
+use Rattle.certificate.specs.Certificate.{heardIn, numbersOf, standingOf, certificateOf, certifiedOf}
+use Rattle.certificate.proofs.Telling.{countable}
+
+-- no number of the table is above 99
+number-small : (r : Reading) → numberOf r < 100
+number-small (Counted n) = omega arith
+number-small Written = omega arith
+number-small (Values m) = omega arith
+number-small (Refused why) = row why
+  where
+    row : (why : Refusal) → refusalNumber why < 100
+    row Question = omega arith
+    row Room = omega arith
+    row Length = omega arith
+    row (Character i) = omega arith
+    row Frame = omega arith
+    row (Manchester i) = omega arith
+    row Echo = omega arith
+    row Pec = omega arith
+    row Alive = omega arith
+    row (Check b) = omega arith
+    row (Count b) = omega arith
+
+numbers-small : (es : List Heard) (k : ℕ) → getD (numbersOf es) k 0 < 100
+numbers-small [] k = omega arith
+numbers-small (e ∷ es) zero = number-small (e .reading)
+numbers-small (e ∷ es) (suc k) = numbers-small es k
+
+pub fits-every-certificate : (file : List ℕ) → goodFile file ≡ true → length (certificateOf file) ≤ 82143
+unfolding certificateOf
+fits-every-certificate file ok =
+    longest (headerIn file .n) (numbersOf (heardIn file)) (standingOf file) (omega (arith, header-most (headerIn file) (parts file ok .header)))
+    (countable file ok) (numbers-small (heardIn file))
+
+-- what is written lies within the lent memory
+pub written-within : (file text : List ℕ) (n : ℕ) → certifiedOf file text ≡ Bytes n → n ≤ length text
+unfolding certifiedOf
+written-within file text n =
+    by-test (goodFile file) (leb (length (certificateOf file)) (length text)) (λ fits. leb-true (length (certificateOf file)) (length text) fits)
+  where
+    by-test : (t u : Bool) → (u ≡ true → length (certificateOf file) ≤ length text)
+        → cond t (cond u (Bytes (length (certificateOf file))) certified.Room) File ≡ Bytes n → n ≤ length text
+    by-test true true fits e = let is : length (certificateOf file) ≡ n = cc in omega (arith, is, fits refl)
+    by-test true false fits e = let z : _≡_ {A = ℕ} 0 1 = cc in absurd (omega arith)
+    by-test false u fits e = let z : _≡_ {A = ℕ} 0 1 = cc in absurd (omega arith)

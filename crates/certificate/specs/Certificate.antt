@@ -1,0 +1,69 @@
+-- The certificate of a job file (document 01, "Job file and certificate"): FILE, then ROOM, else exactly its text at the front of the lent
+-- memory, the rest as it was.
+use mathlib.Core.Path.{_≡_}
+use mathlib.Core.Bool.{cond}
+use mathlib.Core.List.{List, map}
+use Prim.Native.Nat.{ℕ}
+use lib.Dec.{leb}
+use lib.ListN.{length, drop}
+use Rattle.lines.specs.Write.{atFront}
+use Rattle.questions.specs.declared.question.Question.{Question}
+use Rattle.readings.specs.Reading.{numberOf, valuesTaken}
+use Rattle.judging.specs.Judge.{judgeOf}
+use Rattle.reader.specs.Read.{valuesOn}
+use Rattle.jobs.specs.declared.Header.{Header}
+use Rattle.jobs.specs.Format.{Entry, asked}
+use Rattle.jobs.specs.Check.{headerIn, entriesIn, goodFile}
+use Rattle.letters.specs.declared.Standing.{Standing}
+use Rattle.letters.specs.Letters.{Heard, standingAfter}
+use Rattle.printing.specs.Text.{certificateText}
+use Rattle.certificate.specs.declared.Certified.{Certified}
+use Rattle.certificate.specs.declared.Certified.the-variants.{Bytes, File, Room}
+
+-- what the reader says of a line and hands out, with room for the values of 32 devices
+abbrev pub heardAs : Question → (line : List ℕ) → Heard
+heardAs q line = record { question = q; reading = judgeOf q line 32; values = valuesOn line (valuesTaken (judgeOf q line 32)) }
+
+-- an entry heard: the reader called on its question and words
+abbrev pub heardOf : Header → Entry → Heard
+heardOf h e = heardAs (asked h e) (e .words)
+
+-- the entries of a file heard, in their order
+abbrev pub heardIn : (file : List ℕ) → List Heard
+heardIn file = map (heardOf (headerIn file)) (entriesIn (drop 7 file))
+
+-- the number of each entry: 0 for accepted
+abbrev pub numberFor : Heard → ℕ
+numberFor e = numberOf (e .reading)
+
+abbrev pub numbersOf : List Heard → List ℕ
+numbersOf es = map numberFor es
+
+-- the last good write and the letters, after all entries
+abbrev pub standingOf : (file : List ℕ) → Standing
+standingOf file = standingAfter (heardIn file)
+
+-- the text
+unfoldable pub certificateOf : (file : List ℕ) → List ℕ
+certificateOf file = certificateText (headerIn file .n) (numbersOf (heardIn file)) (standingOf file)
+
+-- the answer: FILE, then ROOM
+unfoldable pub certifiedOf : (file text : List ℕ) → Certified
+certifiedOf file text =
+    cond (goodFile file) (cond (leb (length (certificateOf file)) (length text)) (Bytes (length (certificateOf file))) Room) File
+
+-- the lent memory after the call
+unfoldable pub textAfter : (file text : List ℕ) → List ℕ
+textAfter file text =
+    cond (goodFile file) (cond (leb (length (certificateOf file)) (length text)) (atFront (certificateOf file) text) text) text
+
+-- what `certify` says and leaves
+pub record CertificateDone (file before after : List ℕ) (r : Certified) : Type 0 where
+  pub says : r ≡ certifiedOf file before
+  pub leaves : after ≡ textAfter file before
+
+-- document 01's number of an answer
+abbrev pub certifiedNumber : Certified → ℕ
+certifiedNumber (Bytes n) = 0
+certifiedNumber File = 14
+certifiedNumber Room = 2

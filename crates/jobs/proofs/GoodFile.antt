@@ -1,0 +1,126 @@
+-- WHAT A JOB FILE IS. A file of bytes is good exactly when it is the encoding of a header and entries that keep the rules, and then of only
+-- one such header and list of entries: those that the check reads off it.
+use mathlib.Core.Path.{_≡_, refl, sym, ap, ap₂, subst, _∙_}
+use mathlib.Core.Bool.{Bool, true, _&&_}
+use mathlib.Core.List.{List, [], _∷_, _++_}
+use Prim.Native.Nat.{ℕ, _+_, _<_, _≤_}
+use native.Mathlib.Omega.{arith}
+use lib.Dec.{eqb}
+use lib.ListN.{length, getD, drop}
+use borrow.Author.Tests.{le-leb, eqb-true}
+use Rattle.ground.proofs.Test.{and-left, and-right}
+use Rattle.ground.proofs.Lists.{tabulated-front}
+use Rattle.remainder.specs.Turned.{Bytes}
+use Rattle.jobs.specs.declared.Header.{Header}
+use Rattle.jobs.specs.Format.{Entry, entryBytes, entriesBytes, fileBytes}
+use Rattle.jobs.specs.Rules.{goodHeader}
+use Rattle.jobs.specs.Check.{sizeIn, entryIn, goodEntry, goodEntries, entriesIn, walkFrom, pairAt, marked, headerIn, goodFile}
+use Rattle.jobs.specs.Encoded.{AllKeep, none, more, Encodes}
+use Rattle.jobs.proofs.Walk.{one-entry}
+use Rattle.jobs.proofs.Entries.{good, each-entry, parts}
+use Rattle.jobs.proofs.OneEntry.{entry-back, rest-back, entry-good, entry-fits, entry-again, drop-bytes}
+
+-- ---- an encoding is good, and what is read off it is what was written
+
+module _ (h : Header) where
+  abbrev ifGood : List ℕ → Bool → Bool
+  ifGood front later = goodEntry h front && later
+
+  entries-good : (es : List Entry) → AllKeep h es → goodEntries h (entriesBytes es) ≡ true
+  unfolding entriesBytes walkFrom
+  entries-good [] none = refl
+  entries-good (e ∷ es) (more _ _ fits rules rest) =
+      let bytes = entryBytes e ++ entriesBytes es in
+      one-entry true ifGood bytes (omega arith)
+      ∙ ap₂ (λ (t u : Bool). t && u) (entry-good e fits (entriesBytes es) h rules)
+      (ap (goodEntries h) (rest-back e fits (entriesBytes es)) ∙ entries-good es rest)
+
+  entries-back : (es : List Entry) → AllKeep h es → entriesIn (entriesBytes es) ≡ es
+  unfolding entriesBytes walkFrom
+  entries-back [] none = refl
+  entries-back (e ∷ es) (more _ _ fits rules rest) =
+      let bytes = entryBytes e ++ entriesBytes es in
+      one-entry [] (λ (front : List ℕ) (later : List Entry). entryIn front ∷ later) bytes (omega arith)
+      ∙ ap₂ (λ (x : Entry) (l : List Entry). x ∷ l) (entry-back e fits (entriesBytes es))
+      (ap entriesIn (rest-back e fits (entriesBytes es)) ∙ entries-back es rest)
+
+module _ (h : Header) (es : List Entry) (file : List ℕ) (written : Encodes h es file) where
+  -- the header and the entries are those that the check reads off the file
+  pub header-read : headerIn file ≡ h
+  header-read = ap headerIn (written .written)
+
+  pub entries-read : entriesIn (drop 7 file) ≡ es
+  entries-read = ap (λ (f : List ℕ). entriesIn (drop 7 f)) (written .written) ∙ entries-back h es (written .entries)
+
+  -- AN ENCODING IS GOOD
+  pub encoded-is-good : goodFile file ≡ true
+  unfolding goodFile marked
+  encoded-is-good =
+      let is = written .written in
+      let bytes = fileBytes h es in
+      let size : length bytes ≤ 65536 = subst (λ (f : List ℕ). length f ≤ 65536) is (written .size) in
+      ap goodFile is
+      ∙ ap₂ (λ (t u : Bool). t && u && marked bytes && goodHeader h && goodEntries h (entriesBytes es)) (le-leb (length bytes) 65536 size) (le-leb 7 (length bytes) (omega arith))
+      ∙ ap₂ (λ (t u : Bool). t && u) (written .header) (entries-good h es (written .entries))
+
+-- AN ENCODING IS OF ONLY ONE HEADER AND LIST OF ENTRIES
+pub record Same (h h′ : Header) (es es′ : List Entry) : Type 0 where
+  pub header : h ≡ h′
+  pub entries : es ≡ es′
+
+pub encoded-once : (h h′ : Header) (es es′ : List Entry) (file : List ℕ) → Encodes h es file → Encodes h′ es′ file → Same h h′ es es′
+encoded-once h h′ es es′ file one other = record {
+  header = sym (header-read h es file one) ∙ header-read h′ es′ file other;
+  entries = sym (entries-read h es file one) ∙ entries-read h′ es′ file other;
+}
+
+-- ---- a good file is an encoding
+
+-- good entries keep the rules, and written again are the bytes they were read off
+pub record Again (h : Header) (bytes : List ℕ) : Type 0 where
+  pub keep : AllKeep h (entriesIn bytes)
+  pub again : entriesBytes (entriesIn bytes) ≡ bytes
+
+again-nothing : (h : Header) → Again h []
+unfolding entriesBytes walkFrom
+again-nothing h = record { keep = none; again = refl }
+
+entries-again : (h : Header) (bytes : List ℕ) → goodEntries h bytes ≡ true → Bytes bytes → Again h bytes
+unfolding entriesBytes
+entries-again h =
+    each-entry h (λ (bytes : List ℕ). Bytes bytes → Again h bytes) (λ small. again-nothing h)
+    (λ front some ok rest small.
+    let first = good h front ok in
+    let later = rest (drop-bytes (sizeIn front) front small) in
+    let split = one-entry [] (λ (f : List ℕ) (l : List Entry). entryIn f ∷ l) front some in
+    record {
+      keep = subst (AllKeep h) (sym split) (more (entryIn front) (entriesIn (drop (sizeIn front) front)) (entry-fits front small (first .whole)) (first .rules) (later .keep));
+      again = ap entriesBytes split ∙ ap (λ (l : List ℕ). entryBytes (entryIn front) ++ l) (later .again) ∙ entry-again front small (first .whole);
+    })
+
+-- A GOOD FILE IS AN ENCODING, of the header and the entries that the check reads off it
+pub good-is-encoded : (file : List ℕ) → Bytes file → goodFile file ≡ true → Encodes (headerIn file) (entriesIn (drop 7 file)) file
+unfolding marked
+good-is-encoded file small ok =
+    let h = headerIn file in
+    let is = parts file ok in
+    let mark = is .mark in
+    let rest = entries-again h (drop 7 file) (is .entries) (drop-bytes 7 file small) in
+    let low : getD file 3 0 < 256 = small 3 in
+    let version = eqb-true (pairAt file 3 4) 1 (and-right (eqb (getD file 0 0) 0x42 && eqb (getD file 1 0) 0x4D && eqb (getD file 2 0) 0x43) _ mark) in
+    let b0 = eqb-true (getD file 0 0) 0x42 (and-left _ _ (and-left _ _ (and-left _ _ mark))) in
+    let b1 = eqb-true (getD file 1 0) 0x4D (and-right (eqb (getD file 0 0) 0x42) _ (and-left _ _ (and-left _ _ mark))) in
+    let b2 = eqb-true (getD file 2 0) 0x43 (and-right (eqb (getD file 0 0) 0x42 && eqb (getD file 1 0) 0x4D) _ (and-left _ _ mark)) in
+    let b3 : getD file 3 0 ≡ 1 = omega (arith, version) in
+    let b4 : getD file 4 0 ≡ 0 = omega (arith, version) in
+    let made : ℕ → ℕ → ℕ → ℕ → ℕ → List ℕ → List ℕ = λ a b c d e l. a ∷ b ∷ c ∷ d ∷ e ∷ h .n ∷ h .alive ∷ l in
+    record {
+      written =
+          tabulated-front 7 file (is .long)
+          ∙ ap₂ (λ (a b : ℕ). made a b (getD file 2 0) (getD file 3 0) (getD file 4 0) (drop 7 file)) b0 b1
+          ∙ ap₂ (λ (a b : ℕ). made 0x42 0x4D a b (getD file 4 0) (drop 7 file)) b2 b3
+          ∙ ap₂ (λ (a : ℕ) (l : List ℕ). made 0x42 0x4D 0x43 1 a l) b4 (sym (rest .again));
+      header = is .header;
+      entries = rest .keep;
+      size = is .size;
+    }

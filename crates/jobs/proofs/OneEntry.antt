@@ -1,0 +1,102 @@
+-- One entry's bytes read, and what is read written again.
+use mathlib.Core.Path.{_≡_, sym, ap, ap₂, subst, _∙_}
+use mathlib.Core.Bool.{Bool, true, _&&_}
+use mathlib.Core.Logic.{⊎-elim}
+use mathlib.Core.List.{List, _∷_, _++_}
+use Prim.Native.Nat.{ℕ, _+_, _*_, _/_, _%_, _<_, _≤_}
+use native.Mathlib.Omega.{arith}
+use lib.ListN.{length, getD, take, drop, length-append, length-take, length-drop, take-append-drop, List·getD-eq-default}
+use lib.Seq.{take-at, drop-at, drop-drop, getD-take, getD-drop}
+use borrow.Author.Tests.{le-leb}
+use Rattle.ground.proofs.Test.{below-or-not}
+use Rattle.ground.proofs.Lists.{tabulated-front}
+use Rattle.remainder.specs.Turned.{Bytes}
+use Rattle.packing.specs.Words.{wordsOf, bytesOf}
+use Rattle.packing.proofs.Back.{length-bytes, words-back, bytes-back, words-wide}
+use Rattle.jobs.specs.declared.Header.{Header}
+use Rattle.jobs.specs.Format.{Entry, entryBytes}
+use Rattle.jobs.specs.Rules.{keepsRules}
+use Rattle.jobs.specs.Encoded.{Fits}
+use Rattle.jobs.specs.Check.{wordsIn, sizeIn, entryIn, goodEntry}
+use Rattle.jobs.proofs.Entries.{words-number}
+
+-- ---- an entry's bytes, and others behind them
+
+module _ (e : Entry) (fits : Fits e) (rest : List ℕ) where
+  abbrev bytes : List ℕ
+  bytes = entryBytes e ++ rest
+
+  says-words : wordsIn bytes ≡ length (e .words)
+  says-words = omega arith
+
+  pub entry-size : sizeIn bytes ≡ length (entryBytes e)
+  entry-size = omega (arith, says-words, length-bytes (e .words))
+
+  -- the entry read is the entry written
+  pub entry-back : entryIn bytes ≡ e
+  entry-back =
+      let value : e .value % 256 + 256 * (e .value / 256) ≡ e .value = omega arith in
+      let many : 2 * wordsIn bytes ≡ length (bytesOf (e .words)) = omega (arith, says-words, length-bytes (e .words)) in
+      let part : take (2 * wordsIn bytes) (bytesOf (e .words) ++ rest) ≡ bytesOf (e .words) = take-at (bytesOf (e .words)) rest (2 * wordsIn bytes) (sym many) in
+      ap₂ (λ (v : ℕ) (w : List ℕ). record { kind = e .kind; reg = e .reg; value = v; device = e .device; seed = e .seed; words = w })
+      value (ap wordsOf part ∙ words-back (e .words) (fits .words))
+
+  -- and behind it stands the rest
+  pub rest-back : drop (sizeIn bytes) bytes ≡ rest
+  rest-back = drop-at (entryBytes e) rest (sizeIn bytes) (sym entry-size)
+
+  pub entry-good : (h : Header) → keepsRules h e ≡ true → goodEntry h bytes ≡ true
+  unfolding goodEntry
+  entry-good h rules =
+      let size = length-append (entryBytes e) rest in
+      ap₂ (λ (t u : Bool). t && u && keepsRules h (entryIn bytes)) (le-leb 8 (length bytes) (omega arith)) (le-leb (sizeIn bytes) (length bytes) (omega (arith, entry-size, size)))
+      ∙ ap (keepsRules h) entry-back ∙ rules
+
+-- ---- what is read, written again
+
+take-bytes : (n : ℕ) (l : List ℕ) → Bytes l → Bytes (take n l)
+take-bytes n l small i =
+    ⊎-elim
+    (λ (inside : i < n). subst (λ (b : ℕ). b < 256) (sym (getD-take n l i 0 inside)) (small i))
+    (λ (beyond : n ≤ i). subst (λ (b : ℕ). b < 256) (sym (List·getD-eq-default (take n l) 0 (omega (arith, length-take n l)))) (omega arith))
+    (below-or-not i n)
+
+pub drop-bytes : (n : ℕ) (l : List ℕ) → Bytes l → Bytes (drop n l)
+drop-bytes n l small i = subst (λ (b : ℕ). b < 256) (sym (getD-drop n l i 0)) (small (n + i))
+
+module _ (front : List ℕ) (small : Bytes front) (whole : sizeIn front ≤ length front) where
+  abbrev answer : List ℕ
+  answer = take (2 * wordsIn front) (drop 8 front)
+
+  answer-length : length answer ≡ 2 * wordsIn front
+  answer-length = omega (arith, length-take (2 * wordsIn front) (drop 8 front), length-drop 8 front)
+
+  answer-bytes : Bytes answer
+  answer-bytes = take-bytes (2 * wordsIn front) (drop 8 front) (drop-bytes 8 front small)
+
+  pub entry-fits : Fits (entryIn front)
+  entry-fits =
+      let low : getD front 2 0 < 256 = small 2 in
+      let high : getD front 3 0 < 256 = small 3 in
+      record { kind = small 0; reg = small 1; device = small 4; seed = small 5; value = omega arith; words = words-wide answer answer-bytes }
+
+  pub entry-again : entryBytes (entryIn front) ++ drop (sizeIn front) front ≡ front
+  entry-again =
+      let e = entryIn front in
+      let low : getD front 2 0 < 256 = small 2 in
+      let high : getD front 3 0 < 256 = small 3 in
+      let few : getD front 6 0 < 256 = small 6 in
+      let many : getD front 7 0 < 256 = small 7 in
+      let number = words-number front whole in
+      let v0 : e .value % 256 ≡ getD front 2 0 = omega arith in
+      let v1 : e .value / 256 ≡ getD front 3 0 = omega arith in
+      let n0 : length (e .words) % 256 ≡ getD front 6 0 = omega (arith, number) in
+      let n1 : length (e .words) / 256 ≡ getD front 7 0 = omega (arith, number) in
+      let tail : bytesOf (e .words) ++ drop (sizeIn front) front ≡ drop 8 front =
+      ap₂ (λ (x y : List ℕ). x ++ y) (bytes-back answer (wordsIn front) answer-length answer-bytes) (sym (drop-drop (2 * wordsIn front) 8 front)) ∙ take-append-drop (2 * wordsIn front) (drop 8 front) in
+      let made : ℕ → ℕ → ℕ → ℕ → List ℕ → List ℕ =
+      λ a b c d rest. getD front 0 0 ∷ getD front 1 0 ∷ a ∷ b ∷ getD front 4 0 ∷ getD front 5 0 ∷ c ∷ d ∷ rest in
+      ap₂ (λ (a b : ℕ). made a b (length (e .words) % 256) (length (e .words) / 256) (bytesOf (e .words) ++ drop (sizeIn front) front)) v0 v1
+      ∙ ap₂ (λ (c d : ℕ). made (getD front 2 0) (getD front 3 0) c d (bytesOf (e .words) ++ drop (sizeIn front) front)) n0 n1
+      ∙ ap (made (getD front 2 0) (getD front 3 0) (getD front 6 0) (getD front 7 0)) tail
+      ∙ sym (tabulated-front 8 front (omega arith))

@@ -1,0 +1,63 @@
+-- What `open` and `next_entry` say, taken apart: a file turned away is no job file; where good entries are left, the next one is there.
+use mathlib.Core.Path.{_≡_, sym, ap, subst, _∙_}
+use mathlib.Core.Bool.{Bool, true, false, cond}
+use mathlib.Core.List.{List, [], _∷_}
+use Prim.Native.Nat.{ℕ, _+_, _*_, _≤_, _<_}
+use native.Mathlib.Omega.{arith}
+use denote.Enum.Declared.{tagOf}
+use types.Run.{OneOf, miss}
+use lib.ListN.{length, take, drop, length-drop}
+use lib.Seq.{drop-drop}
+use Rattle.ground.proofs.Test.{refuted}
+use Rattle.packing.specs.Words.{wordsOf}
+use Rattle.jobs.specs.declared.Header.{Header}
+use Rattle.jobs.specs.declared.EntryAt.{EntryAt}
+use Rattle.jobs.specs.declared.Cursor.{Cursor}
+use Rattle.jobs.specs.declared.Opened.{Opened}
+use Rattle.jobs.specs.declared.Next.{Next}
+use Rattle.jobs.specs.declared.Next.the-variants as next
+use Rattle.jobs.specs.Check.{wordsIn, entryIn, askedIn, goodEntry, goodEntries, placedIn, nextOf, goodFile, openedOf}
+use Rattle.jobs.proofs.Opened as opened-file
+use Rattle.jobs.proofs.Next as next-entry
+use Rattle.jobs.proofs.Entries.{good, first-good, next-is, opened-good}
+
+module _ (h : Header) (file : List ℕ) (at : ℕ) (here : at < length file) (ok : goodEntries h (drop at file) ≡ true) where
+  this-good : goodEntry h (drop at file) ≡ true
+  this-good = first-good h file at here ok
+
+  pub found : nextOf h file (record { at = at }) ≡ placedIn h at (drop at file)
+  unfolding nextOf
+  found =
+      next-is h (drop at file) at (omega (arith, length-drop at file))
+      ∙ ap (λ (t : Bool). cond t (placedIn h at (drop at file)) next.File) this-good
+
+  -- so that the other answers do not come
+  pub no-other : (r : Next) → r ≡ nextOf h file (record { at = at }) → OneOf (1 ∷ 2 ∷ []) (tagOf next-entry.the-type r) → ⊥
+  no-other r says other = miss (1 ∷ 2 ∷ []) 0 tt (subst (λ (x : Next). OneOf (1 ∷ 2 ∷ []) (tagOf next-entry.the-type x)) (says ∙ found) other)
+
+  -- and the one that comes is the entry in its place
+  pub record Placed (e : EntryAt) (c : Cursor) : Type 0 where
+    pub entry : e ≡ record { question = askedIn h (drop at file); start = at + 8; words = wordsIn (drop at file) }
+    pub after : c .at ≡ at + 8 + 2 * wordsIn (drop at file)
+
+  pub placed : (r : Next) (e : EntryAt) (c : Cursor) → r ≡ nextOf h file (record { at = at }) → r ≡ next.Entry e c → Placed e c
+  placed r e c says is = by (sym is ∙ says ∙ found)
+    where
+      by : next.Entry e c ≡ placedIn h at (drop at file) → Placed e c
+      by same = record { entry = cc; after = ap (λ (x : Cursor). x .at) cc }
+
+  pub entry-words : wordsIn (drop at file) ≤ 140
+  entry-words = good h (drop at file) this-good .words
+
+  pub entry-within : at + 8 + 2 * wordsIn (drop at file) ≤ length file
+  entry-within = omega (arith, good h (drop at file) this-good .whole, length-drop at file)
+
+  -- the words behind its eight bytes
+  pub words-there : wordsOf (take (2 * wordsIn (drop at file)) (drop (at + 8) file)) ≡ entryIn (drop at file) .words
+  words-there = ap (λ (l : List ℕ). wordsOf (take (2 * wordsIn (drop at file)) l)) (sym (drop-drop 8 at file))
+
+-- a file that is turned away
+pub no-job : (file : List ℕ) (r : Opened) → r ≡ openedOf file → OneOf (1 ∷ []) (tagOf opened-file.the-type r) → goodFile file ≡ false
+no-job file r says other =
+    refuted (goodFile file)
+    (λ ok. miss (1 ∷ []) 0 tt (subst (λ (x : Opened). OneOf (1 ∷ []) (tagOf opened-file.the-type x)) (says ∙ opened-good file ok) other))

@@ -1,0 +1,46 @@
+-- The job file to the byte (document 01, "Job file and certificate"), by encoding: the bytes of a header, of an entry, of a file. The mark is
+-- three ASCII bytes; a field not called 16 bits is one byte; 16 bits go low byte first.
+use mathlib.Core.List.{List, [], _∷_, _++_}
+use Prim.Native.Nat.{ℕ, _/_, _%_}
+use lib.ListN.{length}
+use Rattle.packing.specs.Words.{bytesOf}
+use Rattle.questions.specs.declared.question.Question.{Question}
+use Rattle.jobs.specs.declared.Header.{Header}
+
+-- an entry: what was asked, and the words that came back
+pub record Entry : Type 0 where
+  pub kind : ℕ
+  pub reg : ℕ
+  pub value : ℕ
+  pub device : ℕ
+  pub seed : ℕ
+  pub words : List ℕ
+
+-- the mark BMC, version 1 as 16 bits, n, alive
+abbrev pub headerBytes : Header → List ℕ
+headerBytes h = 0x42 ∷ 0x4D ∷ 0x43 ∷ 1 ∷ 0 ∷ h .n ∷ h .alive ∷ []
+
+-- kind, register, value (16 bits), device, seed, number of words (16 bits), the answer's words
+abbrev pub entryBytes : Entry → List ℕ
+entryBytes e =
+    e .kind ∷ e .reg ∷ (e .value % 256) ∷ (e .value / 256) ∷ e .device ∷ e .seed
+    ∷ (length (e .words) % 256) ∷ (length (e .words) / 256) ∷ bytesOf (e .words)
+
+unfoldable pub entriesBytes : List Entry → List ℕ
+entriesBytes [] = []
+entriesBytes (e ∷ es) = entryBytes e ++ entriesBytes es
+
+abbrev pub fileBytes : Header → List Entry → List ℕ
+fileBytes h es = headerBytes h ++ entriesBytes es
+
+-- the entry's question: n and alive stand in the header
+abbrev pub asked : Header → Entry → Question
+asked h e = record {
+  kind = e .kind;
+  n = h .n;
+  alive = h .alive;
+  reg = e .reg;
+  value = e .value;
+  device = e .device;
+  seed = e .seed;
+}

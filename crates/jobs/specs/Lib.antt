@@ -1,0 +1,4 @@
+pub mod Format
+pub mod Rules
+pub mod Check
+pub mod Encoded

@@ -1,0 +1,71 @@
+-- What a letter means (document 01, "Job file and certificate"), said of the list of entries, with no state and no step: the certificate
+-- concerns the last write entry whose question is good; for each device it covers, the latest accepted read of that register that comes
+-- after it and covers the device decides.
+use mathlib.Core.Path.{_≡_}
+use mathlib.Core.Bool.{Bool, true, false, _&&_}
+use mathlib.Core.List.{List, [], _∷_, _++_}
+use Prim.Native.Nat.{ℕ}
+use lib.ListN.{getD}
+use Rattle.questions.specs.Question.{covers}
+use Rattle.questions.specs.declared.question.Question.{Question}
+use Rattle.readings.specs.declared.Reading.{Reading}
+use Rattle.readings.specs.declared.Reading.the-variants.{Counted, Written, Values, Refused}
+use Rattle.letters.specs.Letters.{Heard, S, O, U, isGoodWrite, decides, valueFor, standingAfter}
+
+-- no entry of the list passes the test
+pub data None (test : Heard → Bool) : List Heard → Type 0 where
+  none : None test []
+  more : (e : Heard) (es : List Heard) → test e ≡ false → None test es → None test (e ∷ es)
+
+-- the last entry of the list that passes the test, with what comes before and after it
+pub record Last (test : Heard → Bool) (es : List Heard) : Type 0 where
+  pub before : List Heard
+  pub entry : Heard
+  pub after : List Heard
+  pub whole : es ≡ before ++ (entry ∷ after)
+  pub passes : test entry ≡ true
+  pub last : None test after
+
+abbrev pub goodWrite : Heard → Bool
+goodWrite e = isGoodWrite (e .question)
+
+-- the reader accepted a read
+abbrev pub isValues : Reading → Bool
+isValues (Counted n) = false
+isValues Written = false
+isValues (Values m) = true
+isValues (Refused why) = false
+
+-- an accepted read of the written register, which covers the device
+abbrev pub decisive : (write : Question) → (a : ℕ) → Heard → Bool
+decisive write a e = isValues (e .reading) && decides write (e .question) a
+
+-- the letter that device a deserves, and why
+pub data Deserves (es : List Heard) (a : ℕ) : (letter : ℕ) → Type 0 where
+  holds : (w : Last goodWrite es) → covers (w .entry .question) a ≡ true
+      → (r : Last (decisive (w .entry .question) a) (w .after))
+      → valueFor (r .entry .question) a (r .entry .values) ≡ w .entry .question .value
+      → Deserves es a S
+  differs : (w : Last goodWrite es) → covers (w .entry .question) a ≡ true
+      → (r : Last (decisive (w .entry .question) a) (w .after))
+      → (valueFor (r .entry .question) a (r .entry .values) ≡ w .entry .question .value → ⊥)
+      → Deserves es a O
+  unread : (w : Last goodWrite es) → covers (w .entry .question) a ≡ true
+      → None (decisive (w .entry .question) a) (w .after)
+      → Deserves es a U
+
+-- the certificate gives device a this letter: a device that the standing write covers has the letter that stands
+pub record Given (es : List Heard) (a letter : ℕ) : Type 0 where
+  pub covered : covers (standingAfter es .write) a ≡ true
+  pub stands : getD (standingAfter es .letters) a 0 ≡ letter
+
+-- two entries that are alike for device a: the same question, accepted both or neither, and in an accepted read that covers the device the
+-- same value of its own. Other devices' values may differ.
+pub record Alike (a : ℕ) (e e′ : Heard) : Type 0 where
+  pub question : e .question ≡ e′ .question
+  pub accepted : isValues (e .reading) ≡ isValues (e′ .reading)
+  pub own : isValues (e .reading) ≡ true → covers (e .question) a ≡ true → valueFor (e .question) a (e .values) ≡ valueFor (e′ .question) a (e′ .values)
+
+pub data AllAlike (a : ℕ) : (es es′ : List Heard) → Type 0 where
+  none : AllAlike a [] []
+  more : (e e′ : Heard) (es es′ : List Heard) → Alike a e e′ → AllAlike a es es′ → AllAlike a (e ∷ es) (e′ ∷ es′)

@@ -1,0 +1,128 @@
+// The letters of a certificate (document 01, "Job file and certificate"): for each device that the last good write covers, whether an
+// accepted read after it showed the value written. One step an entry, on a small standing state that goes in and comes back by value.
+use questions::question::HELLOALL;
+use questions::question::Question;
+use questions::question::READALL;
+use questions::question::WRITEALL;
+use questions::question::WRITEDEVICE;
+use questions::question::is_covered;
+use questions::question::is_good;
+use readings::Reading;
+ghost use mathlib.Core.Path.{_≡_};
+ghost use lib.ListN.{getD};
+ghost use Rattle.letters.specs.Letters.{isGoodWrite, valueFor, letterAfter, unheard, decided, hearOf, begun};
+
+// The letters, as the certificate prints them.
+pub const SAME: u8 = 0x53;
+
+pub const OTHER: u8 = 0x4F;
+
+pub const UNHEARD: u8 = 0x55;
+
+// The last good write, or where there was none yet a question that covers no device; and a letter for each of 32 devices.
+pub struct Standing {
+    pub write: Question,
+    pub letters: [u8; 32],
+}
+
+// Before the first entry.
+pub fn begin() -> Standing
+    ensures { λ r. ⌜ r ≡ begun ⌝ }
+{
+    all_unheard(Question {
+        kind: HELLOALL,
+        n: 0,
+        alive: 0,
+        reg: 0,
+        value: 0,
+        device: 0,
+        seed: 0,
+    })
+}
+
+// One entry: its question, what the reader said of its answer, and the values handed out. A good write starts all its devices anew; an
+// accepted read decides; anything else leaves the letters as they stand.
+pub fn hear(standing: Standing, q: Question, reading: Reading, values: &[u16]) -> Standing
+    ensures { λ r. ⌜ r ≡ hearOf standing q reading (now (values .entry)) ⌝ }
+{
+    if is_good_write(q) {
+        return all_unheard(q);
+    }
+    let Reading::Values(_) = reading else {
+        return standing;
+    };
+    decide(standing, q, values)
+}
+
+fn all_unheard(write: Question) -> Standing
+    ensures { λ r. ⌜ r ≡ unheard write ⌝ }
+{
+    Standing {
+        write,
+        letters: [UNHEARD; 32],
+    }
+}
+
+fn is_good_write(q: Question) -> bool
+    ensures { λ r. ⌜ r ≡ isGoodWrite q ⌝ }
+{
+    if q.kind == WRITEALL {
+        return is_good(q);
+    }
+    if q.kind == WRITEDEVICE {
+        return is_good(q);
+    }
+    false
+}
+
+// Of the values that a read handed out, a device's own: READALL's come in address order, READDEVICE has one.
+fn value_for(q: Question, device: u8, values: &[u16]) -> u16
+    ensures { λ r. ⌜ r ≡ valueFor q device (now (values .entry)) ⌝ }
+{
+    if q.kind == READALL {
+        value_at(values, device as usize)
+    } else {
+        value_at(values, 0)
+    }
+}
+
+// The value at a place, or 0 where none was handed out.
+fn value_at(values: &[u16], at: usize) -> u16
+    ensures { λ r. ⌜ r ≡ getD (now (values .entry)) at 0 ⌝ }
+{
+    if at < values.len() { values[at] } else { 0 }
+}
+
+// A device's letter after an accepted read.
+fn letter_after(write: Question, q: Question, device: u8, values: &[u16], letter: u8) -> u8
+    ensures { λ r. ⌜ r ≡ letterAfter write q device (now (values .entry)) letter ⌝ }
+{
+    if q.reg != write.reg {
+        return letter;
+    }
+    if !is_covered(q, device) {
+        return letter;
+    }
+    if !is_covered(write, device) {
+        return letter;
+    }
+    if value_for(q, device, values) == write.value {
+        SAME
+    } else {
+        OTHER
+    }
+}
+
+fn decide(standing: Standing, q: Question, values: &[u16]) -> Standing
+    ensures { λ r. ⌜ r ≡ decided standing q (now (values .entry)) ⌝ }
+{
+    let write = standing.write;
+    let mut letters = standing.letters;
+    let mut device: u8 = 0;
+    while device < 32 {
+        let at = device as usize;
+        letters[at] = letter_after(write, q, device, values, letters[at]);
+        device += 1;
+    }
+    Standing { write, letters }
+}

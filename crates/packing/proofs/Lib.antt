@@ -1,0 +1,3 @@
+mod Storing
+pub mod Back
+pub mod Agree

@@ -1,0 +1,23 @@
+-- A word as two bytes, low first (document 01, "Job file and certificate" and "The C side").
+use mathlib.Core.List.{List, [], _∷_}
+use Prim.Native.Nat.{ℕ, _+_, _*_, _/_, _%_}
+use lib.ListN.{getD, set}
+
+-- the words of some bytes; an odd last byte counts for nothing
+unfoldable pub wordsOf : List ℕ → List ℕ
+wordsOf [] = []
+wordsOf (b ∷ []) = []
+wordsOf (low ∷ high ∷ rest) = (low + 256 * high) ∷ wordsOf rest
+
+-- the bytes of some words
+unfoldable pub bytesOf : List ℕ → List ℕ
+bytesOf [] = []
+bytesOf (w ∷ words) = (w % 256) ∷ (w / 256) ∷ bytesOf words
+
+-- word k of some bytes
+abbrev pub wordAt : List ℕ → (k : ℕ) → ℕ
+wordAt bytes k = getD bytes (2 * k) 0 + 256 * getD bytes (2 * k + 1) 0
+
+-- some bytes with one word at its place
+abbrev pub withWord : List ℕ → (k word : ℕ) → List ℕ
+withWord bytes k word = set (set bytes (2 * k) (word % 256)) (2 * k + 1) (word / 256)

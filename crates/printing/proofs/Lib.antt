@@ -1,0 +1,4 @@
+mod Laying
+mod Printing
+pub mod Lengths
+pub mod Agree

@@ -1,0 +1,41 @@
+-- A certificate printed into lent memory: all of it at the front, the rest as it was; or nothing.
+use mathlib.Core.Path.{_≡_}
+use mathlib.Core.Bool.{cond}
+use mathlib.Core.List.{List}
+use Prim.Native.Nat.{ℕ, _+_}
+use lib.Dec.{leb}
+use lib.ListN.{length}
+use lib.Seq.{sets}
+use Rattle.lines.specs.Write.{atFront}
+use Rattle.letters.specs.declared.Standing.{Standing}
+use Rattle.printing.specs.Text.{certificateText}
+use Rattle.printing.specs.declared.Printed.{Printed}
+use Rattle.printing.specs.declared.Printed.the-variants.{Bytes, Many, Room}
+
+-- a header of 7 bytes and entries of at least 8: of 65,536 bytes, 8,191 entries
+abbrev pub mostEntries : ℕ
+mostEntries = 8191
+
+-- the answer: more entries than a file can have, then ROOM
+unfoldable pub printedOf : (n : ℕ) (numbers : List ℕ) → Standing → (text : List ℕ) → Printed
+printedOf n numbers s text =
+    cond (leb (length numbers) mostEntries)
+    (cond (leb (length (certificateText n numbers s)) (length text)) (Bytes (length (certificateText n numbers s))) Room)
+    Many
+
+-- the lent memory after the call
+unfoldable pub textAfter : (n : ℕ) (numbers : List ℕ) → Standing → (text : List ℕ) → List ℕ
+textAfter n numbers s text =
+    cond (leb (length numbers) mostEntries)
+    (cond (leb (length (certificateText n numbers s)) (length text)) (atFront (certificateText n numbers s) text) text)
+    text
+
+-- what `print` says and leaves
+pub record PrintDone (n : ℕ) (numbers : List ℕ) (s : Standing) (before after : List ℕ) (r : Printed) : Type 0 where
+  pub says : r ≡ printedOf n numbers s before
+  pub leaves : after ≡ textAfter n numbers s before
+
+-- bytes stored from a place on, as far as there is room, and counted
+pub record Laid (before : List ℕ) (at : ℕ) (bytes after : List ℕ) (end : ℕ) : Type 0 where
+  pub leaves : after ≡ sets before at bytes
+  pub up : end ≡ at + length bytes

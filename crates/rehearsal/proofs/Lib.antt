@@ -1,0 +1,5 @@
+pub mod Sending
+mod Answering
+pub mod Rehearsing
+pub mod Accepted
+pub mod Agree

@@ -1,0 +1,3 @@
+pub mod Rehearsal
+pub mod Answering
+pub mod Accepted
