@@ -48,3 +48,11 @@ module _ (q : Question) (good : goodQuestion q ≡ true) where
       (λ (low : q .kind < 3). ⊎-elim (λ e. omega (arith, ap (λ s. s .words) (hello-shape q e)))
       (λ lo. omega (arith, write-shape q lo (omega arith) .words)) (eq-zero-or-pos (q .kind)))
       (λ lo. omega (arith, read-shape q lo .words, good-values q good)) (below-or-not (q .kind) 3)
+
+  -- and no answer is empty
+  pub words-least : 8 ≤ shapeOf q .words
+  words-least =
+      ⊎-elim
+      (λ (low : q .kind < 3). ⊎-elim (λ e. omega (arith, ap (λ s. s .words) (hello-shape q e)))
+      (λ lo. omega (arith, write-shape q lo (omega arith) .words)) (eq-zero-or-pos (q .kind)))
+      (λ lo. omega (arith, read-shape q lo .words)) (below-or-not (q .kind) 3)

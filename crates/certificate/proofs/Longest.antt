@@ -53,14 +53,20 @@ fits-every-certificate file ok =
     longest (headerIn file .n) (numbersOf (heardIn file)) (standingOf file) (omega (arith, header-most (headerIn file) (parts file ok .header)))
     (countable file ok) (numbers-small (heardIn file))
 
--- what is written lies within the lent memory
-pub written-within : (file text : List ℕ) (n : ℕ) → certifiedOf file text ≡ Bytes n → n ≤ length text
+-- what is written: a good file's certificate, within the lent memory
+pub record WrittenOut (file text : List ℕ) (n : ℕ) : Type 0 where
+  pub within : n ≤ length text
+  pub most : n ≤ 82143
+
+pub written : (file text : List ℕ) (n : ℕ) → certifiedOf file text ≡ Bytes n → WrittenOut file text n
 unfolding certifiedOf
-written-within file text n =
-    by-test (goodFile file) (leb (length (certificateOf file)) (length text)) (λ fits. leb-true (length (certificateOf file)) (length text) fits)
+written file text n =
+    by-test (goodFile file) refl (leb (length (certificateOf file)) (length text)) refl
   where
-    by-test : (t u : Bool) → (u ≡ true → length (certificateOf file) ≤ length text)
-        → cond t (cond u (Bytes (length (certificateOf file))) certified.Room) File ≡ Bytes n → n ≤ length text
-    by-test true true fits e = let is : length (certificateOf file) ≡ n = cc in omega (arith, is, fits refl)
-    by-test true false fits e = let z : _≡_ {A = ℕ} 0 1 = cc in absurd (omega arith)
-    by-test false u fits e = let z : _≡_ {A = ℕ} 0 1 = cc in absurd (omega arith)
+    by-test : (t : Bool) → goodFile file ≡ t → (u : Bool) → leb (length (certificateOf file)) (length text) ≡ u
+        → cond t (cond u (Bytes (length (certificateOf file))) certified.Room) File ≡ Bytes n → WrittenOut file text n
+    by-test true ok true fits e =
+        let is : length (certificateOf file) ≡ n = cc in
+        record { within = omega (arith, is, leb-true (length (certificateOf file)) (length text) fits); most = omega (arith, is, fits-every-certificate file ok) }
+    by-test true ok false fits e = let z : _≡_ {A = ℕ} 0 1 = cc in absurd (omega arith)
+    by-test false bad u fits e = let z : _≡_ {A = ℕ} 0 1 = cc in absurd (omega arith)

@@ -1,15 +1,15 @@
 -- Laws of nibbles and their words: decoding inverts encoding, and two nibbles' words differ in twice as many bits as the nibbles.
 use mathlib.Core.Path.{_≡_, refl, sym, ap, _∙_}
-use mathlib.Core.Bool.{Bool, true, false, cond, _&&_, true≢false}
+use mathlib.Core.Bool.{Bool, true, false, cond, _&&_, not, true≢false}
 use Prim.Native.Nat.{ℕ, zero, suc, _+_, _*_, _/_, _^_, _<_}
 use native.Mathlib.Nat.{mod-lt, zero-lt-suc}
 use native.Mathlib.Omega.{arith}
-use lib.Bits.{bitXor}
+use lib.Bits.{bitXor, bitAnd}
 use lib.Count.{ones, onesIn}
 use lib.Dec.{eqb}
 use borrow.Author.Tests.{eqb-true, eq-eqb}
 use Rattle.ground.specs.Sweep.{every}
-use Rattle.ground.proofs.Test.{and-left, and-right}
+use Rattle.ground.proofs.Test.{and-left, and-right, refuted}
 use Rattle.ground.proofs.Sweep.{swept}
 use Rattle.characters.specs.Character.{bit, parityBit, wordOf, preamble, stop}
 use Rattle.characters.specs.Nibble.{followed, nibbleData, nibbleWord, among, decode, isOne, isNibble, trueBits}
@@ -117,14 +117,14 @@ followed-lt b h = omega arith
 data-lt : (a b c d : ℕ) → a < 3 → b < 3 → c < 3 → d < 3 → a + 4 * b + 16 * c + 64 * d < 256
 data-lt a b c d = λ ha hb hc hd. omega arith
 
-word-lt : (d p : ℕ) → d < 256 → p < 2 → d * 2 + p * 2 ^ 9 + 2 ^ 10 + 2 ^ 11 < 65536
+word-lt : (d p : ℕ) → d < 256 → p < 2 → d * 2 + p * 2 ^ 9 + 2 ^ 10 + 2 ^ 11 < 4096
 word-lt d p = λ hd hp. omega arith
 
 bit-lt : (k n : ℕ) → bit k n < 2
 bit-lt zero n = omega arith
 bit-lt (suc k) n = mod-lt (n / 2 ^ suc k) (zero-lt-suc 1)
 
-pub nibble-word-lt : (n : ℕ) → nibbleWord n < 65536
+pub nibble-word-lt : (n : ℕ) → nibbleWord n < 4096
 unfolding nibbleWord wordOf
 nibble-word-lt n =
     let eight = nibbleData n in
@@ -132,3 +132,35 @@ nibble-word-lt n =
     (data-lt (followed (bit 0 n)) (followed (bit 1 n)) (followed (bit 2 n)) (followed (bit 3 n)) (followed-lt (bit 0 n) (bit-lt 0 n))
     (followed-lt (bit 1 n) (bit-lt 1 n)) (followed-lt (bit 2 n) (bit-lt 2 n)) (followed-lt (bit 3 n) (bit-lt 3 n)))
     (mod-lt (bit 0 eight + bit 1 eight + bit 2 eight + bit 3 eight + bit 4 eight + bit 5 eight + bit 6 eight + bit 7 eight) (zero-lt-suc 1))
+
+-- ---- a nibble's word by masks: framed, no parity bit, and each bit followed by its complement
+
+abbrev pub framedBits : ℕ → Bool
+framedBits w = eqb (bitAnd w 0xE01) 0xC00
+
+abbrev pub complements : ℕ → Bool
+complements w = eqb (bitAnd (bitXor w (w / 2)) 0xAA) 0xAA
+
+same-test : Bool → Bool → Bool
+same-test true u = u
+same-test false u = not u
+
+masked : ℕ → Bool
+masked w = same-test (framedBits w && complements w) (eqb (nibbleWord (trueBits w)) w)
+
+all-masked : every masked 4096 ≡ true
+unfolding masked same-test nibbleWord wordOf
+all-masked = refl
+
+pub by-masks : (w : ℕ) → w < 4096 → isNibble w ≡ (framedBits w && complements w)
+unfolding masked same-test
+by-masks w h = is-nibble-is w ∙ sym (same (framedBits w && complements w) (eqb (nibbleWord (trueBits w)) w) (swept masked 4096 all-masked w h))
+  where
+    same : (t u : Bool) → same-test t u ≡ true → t ≡ u
+    same true true e = refl
+    same true false e = sym e
+    same false true e = e
+    same false false e = refl
+
+pub high-bits : (w : ℕ) → 4095 < w → isNibble w ≡ false
+high-bits w high = refuted (isNibble w) (λ e. absurd (omega (arith, nibble-word w e, nibble-word-lt (trueBits w))))

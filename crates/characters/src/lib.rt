@@ -47,11 +47,17 @@ pub fn true_bits(w: u16) -> u8
     (w / 2 % 2 + w / 8 % 2 * 2 + w / 32 % 2 * 4 + w / 128 % 2 * 8) as u8
 }
 
-// Whether a word is the word of a nibble.
+// Whether a word is the word of a nibble: framed, with no parity bit (four of its data bits are set), and each bit followed by its complement.
 pub fn is_nibble(w: u16) -> bool
     ensures { λ r. ⌜ r ≡ isNibble w ⌝ }
 {
-    word_of(true_bits(w)) == w
+    if 4095 < w {
+        return false;
+    }
+    if w & 0xE01 != 0xC00 {
+        return false;
+    }
+    (w ^ (w / 2)) & 0xAA == 0xAA
 }
 
 // The nibble whose word this is, or nothing.

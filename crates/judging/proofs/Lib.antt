@@ -1,3 +1,5 @@
 pub mod UnlessAt
 pub mod Accepted
+mod Clean
+pub mod Bounds
 pub mod Agree

@@ -11,9 +11,33 @@ use scanning::first_no_nibble;
 use scanning::is_framed;
 ghost use mathlib.Core.Path.{_≡_};
 ghost use Rattle.judging.specs.Judge.{judgeWords, judgeOf};
+ghost use Rattle.judging.specs.Clean.{isClean};
 
-// Rows 4 to 6, then the rest.
+// Rows 4 to 6, then the rest. A nibble is a character: a line that is framed and has nibbles between needs no other look.
 fn judge_words(q: Question, line: &[u16]) -> Reading
+    ensures { λ r. ⌜ r ≡ judgeWords q (now (line .entry)) ⌝ }
+{
+    if is_clean(line) {
+        return judge_bytes(q, line);
+    }
+    judge_in_order(q, line)
+}
+
+fn is_clean(line: &[u16]) -> bool
+    ensures { λ r. ⌜ r ≡ isClean (now (line .entry)) ⌝ }
+{
+    if !is_framed(line) {
+        return false;
+    }
+    let odd = first_no_nibble(line);
+    match odd {
+        Place::At(_) => false,
+        Place::Nowhere => true,
+    }
+}
+
+// Each row over the whole line before the next.
+fn judge_in_order(q: Question, line: &[u16]) -> Reading
     ensures { λ r. ⌜ r ≡ judgeWords q (now (line .entry)) ⌝ }
 {
     let bad = first_no_character(line);

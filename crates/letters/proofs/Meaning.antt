@@ -109,12 +109,12 @@ module _ (es : List Heard) (w : Last goodWrite es) where
 
 pub no-write-no-letter : (es : List Heard) → None goodWrite es → (a : ℕ) → covers (standingAfter es .write) a ≡ false
 unfolding covers
-no-write-no-letter es none a = ap (λ (q : Question). covers q a) (write-kept begun none)
+no-write-no-letter es silent a = ap (λ (q : Question). covers q a) (write-kept begun silent)
 
 pub given-is-deserved : (es : List Heard) (a letter : ℕ) → a < 32 → Given es a letter → Deserves es a letter
 given-is-deserved es a letter h given =
     ⊎-elim
-    (λ none. absurd (false≢true (sym (no-write-no-letter es none a) ∙ given .covered)))
+    (λ silent. absurd (false≢true (sym (no-write-no-letter es silent a) ∙ given .covered)))
     (λ w. subst (Deserves es a) (given .stands) (deserved w))
     (search-last goodWrite es)
   where

@@ -124,8 +124,8 @@ characters-wide : (bytes : List ℕ) (i : ℕ) → getD (charactersOf bytes ++ (
 unfolding charactersOf
 characters-wide [] zero = omega arith
 characters-wide [] (suc i) = omega arith
-characters-wide (b ∷ bytes) zero = nibble-word-lt (b % 16)
-characters-wide (b ∷ bytes) (suc zero) = nibble-word-lt (b / 16)
+characters-wide (b ∷ bytes) zero = omega (arith, nibble-word-lt (b % 16))
+characters-wide (b ∷ bytes) (suc zero) = omega (arith, nibble-word-lt (b / 16))
 characters-wide (b ∷ bytes) (suc (suc i)) = characters-wide bytes i
 
 pub line-wide : (bytes : List ℕ) (i : ℕ) → getD (lineOf bytes) i 0 < 65536

@@ -1,8 +1,11 @@
 // What stands on a line: its bytes and their PEC.
 use characters::true_bits;
+use pec::remainders;
+use pec::step_by;
 ghost use mathlib.Core.Path.{_≡_};
 ghost use Prim.Native.Nat.{min};
 ghost use lib.ListN.{getD};
+ghost use Rattle.pec.specs.Pec.{byteStep, remainderTable};
 ghost use Rattle.lines.specs.Line.{byteAt, byteCount, pecOver};
 
 // The word at a place, 0 past the end.
@@ -40,13 +43,21 @@ pub fn pec_over(line: &[u16], from: usize, to: usize) -> u8
 {
     let count = byte_count(line);
     let end = least(to, count);
+    let table = remainders();
     let mut crc: u8 = 0;
     let mut i = from;
     while i < end {
-        crc = pec::step(crc, byte_at(line, i));
+        crc = take_in(&table, crc, byte_at(line, i));
         i += 1;
     }
     crc
+}
+
+fn take_in(table: &[u8; 256], crc: u8, byte: u8) -> u8
+    requires { ⌜ now table ≡ remainderTable ⌝ }
+    ensures { λ r. ⌜ r ≡ byteStep crc byte ⌝ }
+{
+    step_by(table, crc, byte)
 }
 
 fn least(a: usize, b: usize) -> usize

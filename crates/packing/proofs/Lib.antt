@@ -1,3 +1,4 @@
 mod Storing
 pub mod Back
+pub mod Taken
 pub mod Agree

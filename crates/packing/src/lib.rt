@@ -3,7 +3,7 @@ ghost use mathlib.Core.Path.{_≡_};
 ghost use Prim.Native.Nat.{_+_, _*_, _/_, _<_, min};
 ghost use lib.ListN.{length, set, take};
 ghost use lib.Seq.{sets};
-ghost use Rattle.packing.specs.Words.{wordAt, wordsOf, bytesOf, withWord};
+ghost use Rattle.packing.specs.Words.{wordAt, wordsOf, bytesOf, withWord, LineTaken};
 
 // The words of some bytes at the front of the lent words, as far as there is room; the rest stays. An odd last byte counts for nothing.
 pub fn unpack(bytes: &[u8], out: &mut [u16])
@@ -15,6 +15,22 @@ pub fn unpack(bytes: &[u8], out: &mut [u16])
         put_word(out, k, word_at(bytes, k));
         k += 1;
     }
+}
+
+// A line's words at the front of the lent words, and how many there are. A line of an odd number of bytes, or of more words than are lent,
+// is none: 0.
+pub fn take_line(bytes: &[u8], words: &mut [u16]) -> usize
+    ensures { λ r. ⌜ LineTaken (now (bytes .entry)) (now (words .entry)) (now (words .exit)) r ⌝ }
+{
+    if bytes.len() % 2 != 0 {
+        return 0;
+    }
+    let count = bytes.len() / 2;
+    if words.len() < count {
+        return 0;
+    }
+    unpack(bytes, words);
+    count
 }
 
 fn word_at(bytes: &[u8], k: usize) -> u16

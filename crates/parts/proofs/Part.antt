@@ -1,8 +1,10 @@
 -- Where a device's register stands on an accepted line: inside it, so that the second call can hand out that part.
 use mathlib.Core.Path.{_≡_, refl, sym, ap, _∙_}
 use mathlib.Core.Bool.{Bool, true, false, cond, _&&_}
+use mathlib.Core.Logic.{⊎-elim}
 use mathlib.Core.List.{List, []}
 use Prim.Native.Nat.{ℕ, _+_, _-_, _*_, _≤_, _<_}
+use native.Mathlib.Nat.{eq-zero-or-pos}
 use native.Mathlib.Omega.{arith}
 use lib.Dec.{ltb, eqb, lit<}
 use lib.ListN.{length, take, drop}
@@ -12,7 +14,7 @@ use Rattle.questions.specs.Shape.{shapeAt, shapeOf}
 use Rattle.questions.specs.declared.question.Question.{Question}
 use Rattle.questions.proofs.ByKind.{each-kind}
 use Rattle.questions.proofs.Good.{good-kind, good-values, read-shape}
-use Rattle.parts.specs.Part.{orderOf, carried, partOf}
+use Rattle.parts.specs.Part.{orderOf, carried, startOf, partOf}
 use Rattle.judging.proofs.Accepted.{some-values}
 
 order-below : (q : Question) (a : ℕ) → goodQuestion q ≡ true → 3 ≤ q .kind → covers q a ≡ true → orderOf q a < shapeOf q .values
@@ -46,6 +48,12 @@ module _ (q : Question) (line : List ℕ) (a : ℕ) (some : 0 < carried q line) 
       sym (ap (λ (t : Bool). cond t (take 4 (drop (5 + 4 * (carried q line - 1 - orderOf q a)) line)) [])
       (ap (λ (t : Bool). t && covers q a) (lt-ltb 0 (carried q line) some) ∙ put-to))
 
+  pub start-there : 5 + 4 * (carried q line - 1 - orderOf q a) ≡ startOf q line a
+  unfolding startOf
+  start-there =
+      sym (ap (λ (t : Bool). cond t (5 + 4 * (carried q line - 1 - orderOf q a)) 0)
+      (ap (λ (t : Bool). t && covers q a) (lt-ltb 0 (carried q line) some) ∙ put-to))
+
 pub no-part : (q : Question) (line : List ℕ) (a : ℕ) → carried q line ≡ 0 → [] ≡ partOf q line a
 unfolding partOf
 no-part q line a e =
@@ -61,3 +69,54 @@ unfolding partOf
 not-put-to q line a e =
     sym (ap (λ (t : Bool). cond t (take 4 (drop (5 + 4 * (carried q line - 1 - orderOf q a)) line)) [])
     (ap (λ (t : Bool). ltb 0 (carried q line) && t) e ∙ and-false (ltb 0 (carried q line))))
+
+-- ---- the place of the part
+
+pub no-start : (q : Question) (line : List ℕ) (a : ℕ) → carried q line ≡ 0 → 0 ≡ startOf q line a
+unfolding startOf
+no-start q line a e =
+    sym (ap (λ (t : Bool). cond (t && covers q a) (5 + 4 * (carried q line - 1 - orderOf q a)) 0)
+    (le-ltb 0 (carried q line) (omega arith)))
+
+pub start-not-put-to : (q : Question) (line : List ℕ) (a : ℕ) → covers q a ≡ false → 0 ≡ startOf q line a
+unfolding startOf
+start-not-put-to q line a e =
+    sym (ap (λ (t : Bool). cond t (5 + 4 * (carried q line - 1 - orderOf q a)) 0)
+    (ap (λ (t : Bool). ltb 0 (carried q line) && t) e ∙ and-false (ltb 0 (carried q line))))
+
+module _ (q : Question) (line : List ℕ) (a : ℕ) where
+  -- a place is given only where values are carried and the device is put to
+  pub starts : 0 < startOf q line a → (0 < carried q line) × (covers q a ≡ true)
+  starts h =
+      ⊎-elim (λ none. absurd (omega (arith, no-start q line a none))) (λ some. (some, by-test (covers q a) refl))
+      (eq-zero-or-pos (carried q line))
+    where
+      by-test : (t : Bool) → covers q a ≡ t → covers q a ≡ true
+      by-test true e = e
+      by-test false e = absurd (omega (arith, start-not-put-to q line a e))
+
+  -- where it is 0 there is no part
+  pub no-start-no-part : startOf q line a ≡ 0 → [] ≡ partOf q line a
+  no-start-no-part e =
+      ⊎-elim (λ none. no-part q line a none) (λ some. by-test some (covers q a) refl) (eq-zero-or-pos (carried q line))
+    where
+      by-test : 0 < carried q line → (t : Bool) → covers q a ≡ t → [] ≡ partOf q line a
+      by-test some true put-to = absurd (omega (arith, start-there q line a some put-to))
+      by-test some false out = not-put-to q line a out
+
+  -- where it is not, the part stands there, inside the line
+  pub record PartAt : Type 0 where
+    pub part : take 4 (drop (startOf q line a) line) ≡ partOf q line a
+    pub within : startOf q line a + 4 ≤ length line
+    pub near : startOf q line a ≤ 129
+
+  pub part-at : 0 < startOf q line a → PartAt
+  part-at h =
+      let put = starts h in
+      let there = start-there q line a (put .0) (put .1) in
+      let at = inside q line a (put .0) (put .1) in
+      record {
+        part = ap (λ (start : ℕ). take 4 (drop start line)) (sym there) ∙ part-there q line a (put .0) (put .1);
+        within = omega (arith, there, at .within);
+        near = omega (arith, there, at .few);
+      }

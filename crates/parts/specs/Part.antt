@@ -18,8 +18,12 @@ orderOf q a = cond (eqb (q .kind) readAll) a 0
 abbrev pub carried : Question → List ℕ → ℕ
 carried q line = valuesTaken (judgeOf q line (shapeOf q .values))
 
--- the second call: the four characters that carry a device's register; nothing of a line turned away, of another kind, or of a device
+-- the place of the first of the four characters that carry a device's register; 0 for a line turned away, for another kind, and for a device
 -- that the question is not put to
+unfoldable pub startOf : Question → List ℕ → ℕ → ℕ
+startOf q line a = cond (ltb 0 (carried q line) && covers q a) (5 + 4 * (carried q line - 1 - orderOf q a)) 0
+
+-- the second call: the four characters that carry a device's register; nothing where there is no such part
 unfoldable pub partOf : Question → List ℕ → ℕ → List ℕ
 partOf q line a =
     cond (ltb 0 (carried q line) && covers q a) (take 4 (drop (5 + 4 * (carried q line - 1 - orderOf q a)) line)) []

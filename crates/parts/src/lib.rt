@@ -6,23 +6,33 @@ use questions::question::is_covered;
 use questions::question::shape_of;
 use readings::values_taken;
 ghost use mathlib.Core.Path.{_≡_};
-ghost use Rattle.parts.specs.Part.{orderOf, carried, partOf};
+ghost use Rattle.parts.specs.Part.{orderOf, carried, startOf, partOf};
 
 // The part of the line whose four characters carry this device's register, where the line is accepted; else an empty part.
 pub fn register_part<'a>(q: Question, line: &'a [u16], device: u8) -> &'a [u16]
     ensures { λ r. ⌜ now r ≡ partOf q (now (line .entry)) device ⌝ }
 {
-    let m = carried_by(q, line);
-    if m == 0 {
+    let start = part_start(q, line, device);
+    if start == 0 {
         return &line[..0];
     }
-    if !is_covered(q, device) {
-        return &line[..0];
-    }
-    let k = order_of(q, device);
-    let start = 5 + 4 * (m - 1 - k);
     let end = start + 4;
     &line[start..end]
+}
+
+// The place of that part's first word; 0, where a preamble stands, if there is no such part.
+pub fn part_start(q: Question, line: &[u16], device: u8) -> usize
+    ensures { λ r. ⌜ r ≡ startOf q (now (line .entry)) device ⌝ }
+{
+    let m = carried_by(q, line);
+    if m == 0 {
+        return 0;
+    }
+    if !is_covered(q, device) {
+        return 0;
+    }
+    let k = order_of(q, device);
+    5 + 4 * (m - 1 - k)
 }
 
 // How many values an accepted line carries: room plays no part.

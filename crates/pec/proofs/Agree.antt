@@ -3,9 +3,17 @@ use mathlib.Core.Path.{sym, _∙_}
 use Rattle.ground.specs.Agree.{Settled}
 use Rattle.pec.proofs.step.Reads as step
 use Rattle.pec.proofs.pec.Reads as pec
+use Rattle.pec.proofs.step_by.Reads as step-by
+use Rattle.pec.proofs.remainders.Reads as remainders
 
 pub step-settled : Settled step.Post
 step-settled l given r r′ left left′ p q = p ∙ sym q
 
 pub pec-settled : Settled pec.Post
 pec-settled l given r r′ left left′ p q = p ∙ sym q
+
+pub step-by-settled : Settled step-by.Post
+step-by-settled l given r r′ left left′ p q = p ∙ sym q
+
+pub remainders-settled : Settled remainders.Post
+remainders-settled l given r r′ left left′ p q = p ∙ sym q

@@ -4,19 +4,20 @@ use mathlib.Core.Bool.{Bool, true, _&&_, _||_, cond}
 use mathlib.Core.Logic.{⊎-elim}
 use mathlib.Core.List.{List, [], _∷_}
 use Prim.Native.Nat.{ℕ, suc, _+_, _-_, _*_, _/_, _%_, _^_, _<_}
-use native.Mathlib.Nat.{mod-lt, zero-lt-suc}
+use native.Mathlib.Nat.{mod-lt, zero-lt-suc, zero-add}
 use native.Mathlib.Omega.{arith}
 use lib.Bits.{bitXor, xor-zero-r, xor-lt}
 use lib.Dec.{eqb, ltb, lit<}
+use lib.ListN.{getD}
 use borrow.Author.Tests.{ltb-true, eqb-true}
 use Rattle.ground.specs.Sweep.{every}
 use Rattle.ground.proofs.Test.{and-left, and-right, or-cases}
-use Rattle.ground.proofs.Sweep.{swept}
+use Rattle.ground.proofs.Sweep.{swept, tabulated-at}
 use Rattle.remainder.specs.Register.{times, run, shift, lowestFirst, Linear, LinearIn}
 use Rattle.remainder.specs.Turned.{Bytes}
 use Rattle.remainder.proofs.Xor.{digit, xor-swap}
 use Rattle.remainder.proofs.Linear.{times-linear, lowest-first-linear}
-use Rattle.pec.specs.Pec.{poly, bitStep, byteStep, pecOf}
+use Rattle.pec.specs.Pec.{poly, bitStep, byteStep, pecOf, remainderTable}
 
 -- The constant is the polynomial's, x^8 + x^6 + x^3 + x^2 + 1 lowest bit first: x^e stands at bit 7 - e, and x^8 is the bit that falls out.
 polynomial : poly ≡ 2 ^ (7 - 6) + 2 ^ (7 - 3) + 2 ^ (7 - 2) + 2 ^ (7 - 0)
@@ -78,3 +79,9 @@ run-lt crc (x ∷ bytes) h b =
 pub pec-lt : (bytes : List ℕ) → Bytes bytes → pecOf bytes < 256
 unfolding pecOf
 pec-lt bytes b = run-lt 0 bytes (lit< tt) b
+
+-- the table's rule, carried to each entry: the remainder at the byte folded into the state is the state with the byte taken in
+pub by-table : (crc byte : ℕ) → crc < 256 → byte < 256 → getD remainderTable (bitXor crc byte) 0 ≡ byteStep crc byte
+unfolding byteStep
+by-table crc byte small few =
+    tabulated-at (times 8 bitStep) 256 0 (bitXor crc byte) (xor-lt 8 crc byte small few) ∙ ap (times 8 bitStep) (zero-add (bitXor crc byte))

@@ -5,6 +5,7 @@ use mathlib.Core.List.{List}
 use Prim.Native.Nat.{ℕ, _/_, _%_}
 use lib.Bits.{bitXor}
 use lib.Dec.{eqb}
+use Rattle.ground.specs.Sweep.{tabulated}
 use Rattle.remainder.specs.Register.{times, run}
 
 -- POLY = &HB2: x^8 + x^6 + x^3 + x^2 + 1, bits lowest first
@@ -22,3 +23,7 @@ byteStep crc byte = times 8 bitStep (bitXor crc byte)
 -- The PEC of some bytes: each of them in its turn, from 0.
 unfoldable pub pecOf : List ℕ → ℕ
 pecOf bytes = run byteStep 0 bytes
+
+-- the remainder of each of the 256 bytes: a byte from the state that it was folded into
+abbrev pub remainderTable : List ℕ
+remainderTable = tabulated (times 8 bitStep) 256 0

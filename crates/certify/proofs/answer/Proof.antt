@@ -2,7 +2,7 @@
 use mathlib.Core.Path.{sym, _∙_}
 use native.Mathlib.Omega.{arith}
 use lib.ListN.{length-take}
-use Rattle.certificate.proofs.Longest.{written-within}
+use Rattle.certificate.proofs.Longest.{written}
 use borrow.Author.Needs.{needs}
 use Rattle.certify.proofs.answer.Statement.{statement}
 use Rattle.certify.proofs.answer.Tie as tie
@@ -29,10 +29,10 @@ returns : tie.Need-returns
 returns c = search needs
 
 array-share-prefix-text : tie.Need-array-share-prefix-text
-array-share-prefix-text c = omega (arith, written-within (c .before .before .before .before .before .before .before .before .args .file .now) (c .before .before .before .before .before .before .text-memory .result) (c .before .certified .given .0 .0) (sym (c .before .before .before .before .certify .ensures .says) ∙ c .before .certified .given .1), c .before .before .before .before .certify .kept .1 .0)
+array-share-prefix-text c = omega (arith, written (c .before .before .before .before .before .before .before .before .args .file .now) (c .before .before .before .before .before .before .text-memory .result) (c .before .certified .given .0 .0) (sym (c .before .before .before .before .certify .ensures .says) ∙ c .before .certified .given .1) .within, c .before .before .before .before .certify .kept .1 .0)
 
 slice-aggregate-say-2 : tie.Need-slice-aggregate-say-2
-slice-aggregate-say-2 c = simp length-take (omega (arith, written-within (c .before .before .before .before .before .before .before .before .before .args .file .now) (c .before .before .before .before .before .before .before .text-memory .result) (c .before .before .certified .given .0 .0) (sym (c .before .before .before .before .before .certify .ensures .says) ∙ c .before .before .certified .given .1), c .before .before .before .before .before .before .before .text-memory .ensures, c .before .before .before .before .before .certify .kept .1 .0))
+slice-aggregate-say-2 c = simp length-take (omega (arith, written (c .before .before .before .before .before .before .before .before .before .args .file .now) (c .before .before .before .before .before .before .before .text-memory .result) (c .before .before .certified .given .0 .0) (sym (c .before .before .before .before .before .certify .ensures .says) ∙ c .before .before .certified .given .1) .within, c .before .before .before .before .before .before .before .text-memory .ensures, c .before .before .before .before .before .certify .kept .1 .0))
 
 say-requires-2 : tie.Need-say-requires-2
 say-requires-2 c κs = search needs

@@ -1,23 +1,20 @@
--- `is_nibble` meets its contract: a nibble's word is the word of its true bits.
+-- `is_nibble` meets its contract: no word above 4095 is a nibble's, and below it the masks decide, which one computed test shows.
 use mathlib.Core.Path.{sym, ap, _∙_}
-use Prim.Native.Nat.{ℕ}
-use lib.Dec.{eqb}
-use Rattle.characters.specs.Nibble.{nibbleWord}
-use Rattle.characters.proofs.Nibble.{is-nibble-is}
-use borrow.Author.Needs.{needs}
+use mathlib.Core.Bool.{Bool, _&&_}
+use native.Mathlib.Omega.{arith}
+use borrow.Author.Tests.{eq-eqb, ne-eqb}
+use Rattle.characters.proofs.Nibble.{complements, by-masks, high-bits}
 use Rattle.characters.proofs.is_nibble.Statement.{statement}
 use Rattle.characters.proofs.is_nibble.Tie as tie
 
-true-bits-requires : tie.Need-true-bits-requires
-true-bits-requires c κs = search needs
-
-word-of-requires : tie.Need-word-of-requires
-word-of-requires c κs = search needs
-
 returns : tie.Need-returns
-returns c =
-    let w = c .before .before .args .w in
-    ap (λ (x : ℕ). eqb x w) (c .word-of .ensures ∙ ap nibbleWord (c .before .true-bits .ensures)) ∙ sym (is-nibble-is w)
+returns c = sym (high-bits (c .before .args .w) (c .if1 .taken))
+
+returns-2 : tie.Need-returns-2
+returns-2 c = let w = c .before .before .args .w in sym (by-masks w (omega (arith, c .before .if1 .left)) ∙ ap (λ (t : Bool). t && complements w) (ne-eqb _ 0xC00 (c .if2 .taken)))
+
+returns-3 : tie.Need-returns-3
+returns-3 c = let w = c .before .before .args .w in sym (by-masks w (omega (arith, c .before .if1 .left)) ∙ ap (λ (t : Bool). t && complements w) (eq-eqb _ 0xC00 (c .if2 .left)))
 
 pub is-nibble-spec : {M : Type 1} → statement M
-is-nibble-spec = tie.close (tie.spec true-bits-requires word-of-requires returns)
+is-nibble-spec = tie.close (tie.spec returns returns-2 returns-3)

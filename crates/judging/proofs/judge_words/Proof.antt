@@ -1,76 +1,26 @@
--- `judge_words` meets its contract: each `return` is the row that the tests before it lead to.
+-- `judge_words` meets its contract: a clean line passes rows 4 to 6, and any other goes through them in their order.
 use mathlib.Core.Path.{sym, _∙_}
-use borrow.Author.Tests.{not-true, not-false}
-use Rattle.judging.specs.Judge.{judgeWords}
-use Rattle.contents.proofs.Unless.{goes-on, turns-away}
-use Rattle.judging.proofs.UnlessAt.{no-place, at-place}
+use Rattle.judging.proofs.Clean.{clean-judged}
 use borrow.Author.Needs.{needs}
 use Rattle.judging.proofs.judge_words.Statement.{statement}
 use Rattle.judging.proofs.judge_words.Tie as tie
 
-first-no-character-requires : tie.Need-first-no-character-requires
-first-no-character-requires c κs = search needs
-
-enum-known-bad : tie.Need-enum-known-bad
-enum-known-bad c = search needs
-
-returns : tie.Need-returns
-unfolding judgeWords
-returns c =
-    sym (at-place _ _ _ _ (sym (c .before .before .before .first-no-character .ensures) ∙ c .before .bad .given .1))
-
-enum-told : tie.Need-enum-told
-enum-told c = search needs
-
-is-framed-requires : tie.Need-is-framed-requires
-is-framed-requires c κs = search needs
-
-returns-2 : tie.Need-returns-2
-unfolding judgeWords
-returns-2 c =
-    sym (no-place _ _ _ (sym (c .before .before .before .before .first-no-character .ensures) ∙ c .before .before .enum-told .given .1)
-    ∙ turns-away _ _ _ (sym (c .before .is-framed .ensures) ∙ not-true (c .before .is-framed .result) (c .if1 .taken)))
-
-first-no-nibble-requires : tie.Need-first-no-nibble-requires
-first-no-nibble-requires c κs = search needs
-
-enum-known-odd : tie.Need-enum-known-odd
-enum-known-odd c = search needs
-
-returns-3 : tie.Need-returns-3
-unfolding judgeWords
-returns-3 c =
-    sym (no-place _ _ _ (sym (c .before .before .before .before .before .before .before .before .first-no-character .ensures) ∙ c .before .before .before .before .before .before .enum-told .given .1)
-    ∙ goes-on _ _ _ (sym (c .before .before .before .before .before .is-framed .ensures) ∙ not-false (c .before .before .before .before .before .is-framed .result) (c .before .before .before .before .if1 .left))
-    ∙ at-place _ _ _ _ (sym (c .before .before .before .first-no-nibble .ensures) ∙ c .before .odd .given .1))
-
-enum-told-2 : tie.Need-enum-told-2
-enum-told-2 c = search needs
+is-clean-requires : tie.Need-is-clean-requires
+is-clean-requires c κs = search needs
 
 judge-bytes-requires : tie.Need-judge-bytes-requires
 judge-bytes-requires c κs = search needs
 
-returns-4 : tie.Need-returns-4
-unfolding judgeWords
-returns-4 c =
-    c .judge-bytes .ensures
-    ∙ sym (no-place _ _ _ (sym (c .before .before .before .before .before .before .before .before .first-no-character .ensures) ∙ c .before .before .before .before .before .before .enum-told .given .1)
-    ∙ goes-on _ _ _ (sym (c .before .before .before .before .before .is-framed .ensures) ∙ not-false (c .before .before .before .before .before .is-framed .result) (c .before .before .before .before .if1 .left))
-    ∙ no-place _ _ _ (sym (c .before .before .before .first-no-nibble .ensures) ∙ c .before .enum-told2 .given .1))
+returns : tie.Need-returns
+returns c = c .judge-bytes .ensures ∙ clean-judged (c .before .before .before .before .args .line .now) (sym (c .before .before .is-clean .ensures) ∙ c .before .if1 .taken) (c .before .before .before .before .args .q)
+
+judge-in-order-requires : tie.Need-judge-in-order-requires
+judge-in-order-requires c κs = search needs
+
+returns-2 : tie.Need-returns-2
+returns-2 c = search needs
 
 pub judge-words-spec : {M : Type 1} → statement M
 judge-words-spec =
     tie.close
-    (tie.spec
-    first-no-character-requires
-    enum-known-bad
-    returns
-    enum-told
-    is-framed-requires
-    returns-2
-    first-no-nibble-requires
-    enum-known-odd
-    returns-3
-    enum-told-2
-    judge-bytes-requires
-    returns-4)
+    (tie.spec is-clean-requires judge-bytes-requires returns judge-in-order-requires returns-2)

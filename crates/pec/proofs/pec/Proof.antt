@@ -2,7 +2,6 @@
 use mathlib.Core.Path.{_≡_, refl, sym, ap, _∙_}
 use Prim.Native.Nat.{ℕ, _+_, _≤_, _-_}
 use native.Mathlib.Omega.{arith}
-use borrow.Author.Needs.{needs}
 use lib.ListN.{length, drop}
 use Rattle.remainder.specs.Register.{run}
 use Rattle.remainder.proofs.Run.{run-next, run-end}
@@ -11,20 +10,23 @@ use Rattle.pec.proofs.pec.Statement.{statement}
 use Rattle.pec.proofs.pec.Tie as tie
 
 abbrev Inv-loop : tie.InvT-loop
-Inv-loop bytes crc₀ i₀ crc i = (i ≤ length bytes) × (run byteStep crc (drop i bytes) ≡ pecOf bytes)
+Inv-loop bytes table crc₀ i₀ crc i = (i ≤ length bytes) × (run byteStep crc (drop i bytes) ≡ pecOf bytes)
 
 abbrev μ-loop : tie.MeasureT-loop
-μ-loop bytes crc₀ i₀ crc i = length bytes - i
+μ-loop bytes table crc₀ i₀ crc i = length bytes - i
+
+remainders-requires : tie.Need-remainders-requires Inv-loop μ-loop
+remainders-requires c κs = tt
 
 loop-holds : tie.Need-loop-holds Inv-loop μ-loop
 unfolding pecOf
 loop-holds c = (omega arith, refl)
 
-shared-slice-read-step : tie.Need-shared-slice-read-step Inv-loop μ-loop
-shared-slice-read-step c = omega arith
+shared-slice-read-take-in : tie.Need-shared-slice-read-take-in Inv-loop μ-loop
+shared-slice-read-take-in c = omega arith
 
-step-requires : tie.Need-step-requires Inv-loop μ-loop
-step-requires c κs = search needs
+take-in-requires : tie.Need-take-in-requires Inv-loop μ-loop
+take-in-requires c κs = c .before .before .before .before .remainders .ensures
 
 add-i : tie.Need-add-i Inv-loop μ-loop
 add-i c = omega arith
@@ -34,16 +36,16 @@ loop-less c = omega arith
 
 loop-again : tie.Need-loop-again Inv-loop μ-loop
 loop-again c =
-    let l = c .before .before .before .before .before .args .bytes .now in
-    let at = c .before .before .before .loop in (
+    let l = c .before .before .before .before .before .before .before .args .bytes .now in
+    let at = c .before .before .before .before .loop in (
       omega arith,
-      ap (λ (crc : ℕ). run byteStep crc (drop (at .i + 1) l)) (c .step .ensures)
-          ∙ sym (run-next byteStep (at .crc) l (at .i) (c .before .before .loop-test .taken)) ∙ at .inv .1,
+      ap (λ (crc : ℕ). run byteStep crc (drop (at .i + 1) l)) (c .take-in .ensures)
+          ∙ sym (run-next byteStep (at .crc) l (at .i) (c .before .before .before .loop-test .taken)) ∙ at .inv .1,
     )
 
 returns : tie.Need-returns Inv-loop μ-loop
 returns c =
-    let l = c .before .before .before .args .bytes .now in
+    let l = c .before .before .before .before .args .bytes .now in
     sym (run-end byteStep (c .before .loop .crc) l (c .before .loop .i) (c .loop-test .left)) ∙ c .before .loop .inv .1
 
 pub pec-spec : {M : Type 1} → statement M
@@ -52,9 +54,10 @@ pec-spec =
     (tie.spec
     Inv-loop
     μ-loop
+    remainders-requires
     loop-holds
-    shared-slice-read-step
-    step-requires
+    shared-slice-read-take-in
+    take-in-requires
     add-i
     loop-less
     loop-again

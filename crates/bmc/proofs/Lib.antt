@@ -1,0 +1,2 @@
+mod FewBytes
+pub mod Agree

@@ -1,0 +1,33 @@
+-- The C side's calls (document 01, "The C side"): a question by its seven numbers, and the certificate's answer packed into one number.
+use mathlib.Core.Path.{_≡_}
+use mathlib.Core.List.{List}
+use Prim.Native.Nat.{ℕ, _+_, _*_}
+use Rattle.questions.specs.declared.question.Question.{Question}
+use Rattle.certificate.specs.Certificate.{certifiedOf, textAfter, certifiedNumber}
+use Rattle.certificate.specs.declared.Certified.{Certified}
+use Rattle.certificate.specs.declared.Certified.the-variants.{Bytes, File, Room}
+
+abbrev pub asking : (kind n alive reg value device seed : ℕ) → Question
+asking kind n alive reg value device seed = record {
+  kind = kind;
+  n = n;
+  alive = alive;
+  reg = reg;
+  value = value;
+  device = device;
+  seed = seed;
+}
+
+abbrev pub bytesWritten : Certified → ℕ
+bytesWritten (Bytes n) = n
+bytesWritten File = 0
+bytesWritten Room = 0
+
+-- bits 0 to 7 the number, bits 8 to 31 how many bytes were written
+abbrev pub packedCertified : Certified → ℕ
+packedCertified c = certifiedNumber c + 256 * bytesWritten c
+
+-- what `bmc_certificate` says and leaves
+pub record CertificateBytesDone (file before after : List ℕ) (r : ℕ) : Type 0 where
+  pub says : r ≡ packedCertified (certifiedOf file before)
+  pub leaves : after ≡ textAfter file before

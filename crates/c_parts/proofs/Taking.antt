@@ -1,0 +1,54 @@
+-- The line that is taken is as good as the whole: what is too long to be taken is accepted by no question, so it has no part either.
+use mathlib.Core.Path.{_≡_, refl, sym, ap, _∙_}
+use mathlib.Core.Bool.{Bool, true, false, cond, _&&_}
+use mathlib.Core.Logic.{⊎-elim}
+use mathlib.Core.List.{List, []}
+use Prim.Native.Nat.{ℕ, _/_, _%_, _≤_, _<_}
+use native.Mathlib.Nat.{eq-zero-or-pos}
+use native.Mathlib.Omega.{arith}
+use lib.Dec.{eqb, leb}
+use lib.ListN.{length, take}
+use borrow.Author.Tests.{leb-false}
+use Rattle.packing.specs.Words.{wordsOf, lineIn, LineTaken}
+use Rattle.packing.proofs.Back.{length-words}
+use Rattle.packing.proofs.Taken.{line-front}
+use Rattle.questions.specs.Shape.{shapeOf}
+use Rattle.questions.specs.declared.question.Question.{Question}
+use Rattle.judging.proofs.Accepted.{some-values}
+use Rattle.acceptance.proofs.Lengths.{words-most}
+use Rattle.parts.specs.Part.{startOf}
+use Rattle.parts.proofs.Part.{starts, part-at}
+use Rattle.c_parts.specs.PartBytes.{packedStart, partIn}
+
+-- the words at the front of the lent ones are the line
+pub line-taken : (bytes before after : List ℕ) (count : ℕ) → LineTaken bytes before after count → length before ≡ 140
+    → take count after ≡ lineIn 140 bytes
+line-taken bytes before after count done room = line-front bytes before after count done ∙ ap (λ (n : ℕ). lineIn n bytes) room
+
+module _ (q : Question) (device : ℕ) where
+  pub start-most : (line : List ℕ) → startOf q line device ≤ 140
+  start-most line =
+      ⊎-elim (λ none. omega arith) (λ some. omega (arith, part-at q line device some .near)) (eq-zero-or-pos (startOf q line device))
+
+  empty-has-none : startOf q [] device ≡ 0
+  empty-has-none =
+      ⊎-elim (λ none. none) (λ some. absurd (omega (arith, part-at q [] device some .within))) (eq-zero-or-pos (startOf q [] device))
+
+  too-long-has-none : (line : List ℕ) → 140 < length line → startOf q line device ≡ 0
+  too-long-has-none line long =
+      ⊎-elim (λ none. none)
+      (λ some. let c = some-values q line (shapeOf q .values) (starts q line device some .0) in
+      absurd (omega (arith, c .taken .words, words-most q (c .taken .good))))
+      (eq-zero-or-pos (startOf q line device))
+
+  -- so the part of what is taken is the part of the whole
+  pub part-of-taken : (bytes : List ℕ) → packedStart (startOf q (lineIn 140 bytes) device) ≡ partIn q device bytes
+  unfolding lineIn partIn
+  part-of-taken bytes = ap packedStart (by-test (eqb (length bytes % 2) 0) (leb (length bytes / 2) 140) refl)
+    where
+      by-test : (t u : Bool) → leb (length bytes / 2) 140 ≡ u
+          → startOf q (cond (t && u) (wordsOf bytes) []) device ≡ startOf q (cond t (wordsOf bytes) []) device
+      by-test true true e = refl
+      by-test true false e =
+          empty-has-none ∙ sym (too-long-has-none (wordsOf bytes) (omega (arith, length-words bytes, leb-false (length bytes / 2) 140 e)))
+      by-test false u e = refl

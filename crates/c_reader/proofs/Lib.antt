@@ -1,0 +1,2 @@
+mod OnWords
+pub mod Agree

@@ -1,0 +1,38 @@
+-- The reader over bytes (document 01, "The C side"): the reader's own definition on the words of the bytes, and its answer packed into one
+-- number.
+use mathlib.Core.Path.{_≡_}
+use mathlib.Core.Bool.{cond}
+use mathlib.Core.List.{List, []}
+use Prim.Native.Nat.{ℕ, _+_, _*_, _/_, _%_, _≤_}
+use lib.Dec.{eqb}
+use lib.ListN.{length}
+use Rattle.lines.specs.Write.{atFront}
+use Rattle.packing.specs.Words.{wordsOf, bytesOf}
+use Rattle.questions.specs.declared.question.Question.{Question}
+use Rattle.readings.specs.Reading.{numberOf, placeOf, byteOf, countOf, valuesTaken}
+use Rattle.readings.specs.declared.Reading.{Reading}
+use Rattle.judging.specs.Judge.{judgeOf}
+use Rattle.reader.specs.Read.{valuesOn}
+
+-- the words of a line of bytes; an odd number of bytes is as no line at all, and so LENGTH, in LENGTH's place
+abbrev pub lineOn : (bytes : List ℕ) → List ℕ
+lineOn bytes = cond (eqb (length bytes % 2) 0) (wordsOf bytes) []
+
+-- what the reader says of it: two bytes of room a value, and an odd last byte counts for none
+unfoldable pub readingOn : Question → (line out : List ℕ) → Reading
+readingOn q line out = judgeOf q (lineOn line) (length out / 2)
+
+-- Bits 0 to 7 the number, 0 for accepted. Bits 8 to 15 the byte (CHECK, COUNT), or HELLOALL's count. Bits 16 to 31 the place (CHARACTER,
+-- MANCHESTER), or how many values were written. No reading has both of a pair.
+abbrev pub packedReading : Reading → ℕ
+packedReading r = numberOf r + 256 * (byteOf r + countOf r) + 65536 * (placeOf r + valuesTaken r)
+
+-- what a packed reading can hold: more than any answer has
+pub record Fits (r : Reading) : Type 0 where
+  pub place : placeOf r ≤ 140
+  pub values : valuesTaken r ≤ 32
+
+-- what `read_bytes` says and leaves: the values at the front of the output, two bytes each, low first, and the rest as it was
+pub record ReadBytesDone (q : Question) (line before after : List ℕ) (r : ℕ) : Type 0 where
+  pub says : r ≡ packedReading (readingOn q line before)
+  pub leaves : after ≡ atFront (bytesOf (valuesOn (lineOn line) (valuesTaken (readingOn q line before)))) before

@@ -1,0 +1,75 @@
+-- A clean line passes rows 4 to 6: preamble, nibbles and stop are characters all.
+use mathlib.Core.Path.{_≡_, refl, sym, ap, _∙_}
+use mathlib.Core.Bool.{true, false≢true}
+use mathlib.Core.Logic.{⊎-elim}
+use mathlib.Core.List.{List}
+use Prim.Native.Nat.{ℕ, _+_, _-_, _<_, _≤_}
+use native.Mathlib.Nat.{eq-zero-or-pos}
+use native.Mathlib.Omega.{arith}
+use lib.Dec.{eqb}
+use lib.ListN.{length, getD}
+use borrow.Author.Tests.{eqb-true}
+use Rattle.ground.proofs.Test.{and-left, and-right, below-or-not}
+use Rattle.characters.specs.Character.{preamble, stop}
+use Rattle.characters.specs.Nibble.{isNibble, trueBits}
+use Rattle.characters.proofs.Nibble.{nibble-word, true-bits-lt}
+use Rattle.character_check.specs.Check.{isCharacter}
+use Rattle.character_check.proofs.Pass.{preamble-character, stop-character, nibble-character}
+use Rattle.scanning.specs.Place.{firstNoCharacter, firstNoNibble}
+use Rattle.scanning.specs.Frame.{framed}
+use Rattle.scanning.specs.declared.Place.{Place}
+use Rattle.scanning.specs.declared.Place.the-variants.{At, Nowhere}
+use Rattle.scanning.proofs.FirstPlace.{nowhere-passes, passes-nowhere}
+use Rattle.questions.specs.declared.question.Question.{Question}
+use Rattle.contents.specs.InOrder.{judgeBytes}
+use Rattle.contents.proofs.Unless.{goes-on}
+use Rattle.judging.specs.Judge.{judgeWords}
+use Rattle.judging.specs.Clean.{isNowhere, isClean}
+use Rattle.judging.proofs.UnlessAt.{no-place}
+
+is-nowhere : (p : Place) → isNowhere p ≡ true → p ≡ Nowhere
+is-nowhere (At i) e = absurd (false≢true e)
+is-nowhere Nowhere e = refl
+
+module _ (line : List ℕ) (clean : isClean line ≡ true) where
+  frame : framed line ≡ true
+  unfolding isClean
+  frame = and-left (framed line) _ clean
+
+  nibbles : firstNoNibble line ≡ Nowhere
+  unfolding isClean
+  nibbles = is-nowhere (firstNoNibble line) (and-right (framed line) _ clean)
+
+  first : getD line 0 0 ≡ preamble
+  unfolding framed
+  first = eqb-true (getD line 0 0) preamble (and-left (eqb (getD line 0 0) preamble) _ frame)
+
+  last : getD line (length line - 1) 0 ≡ stop
+  unfolding framed
+  last = eqb-true (getD line (length line - 1) 0) stop (and-right (eqb (getD line 0 0) preamble) _ frame)
+
+  between : (j : ℕ) → 1 ≤ j → j < 1 + (length line - 2) → isNibble (getD line j 0) ≡ true
+  unfolding firstNoNibble
+  between = nowhere-passes isNibble line 1 (length line - 2) nibbles
+
+  each-character : (j : ℕ) → j < length line → isCharacter (getD line j 0) ≡ true
+  each-character j inside =
+      ⊎-elim
+      (λ (start : j ≡ 0). ap (λ (k : ℕ). isCharacter (getD line k 0)) start ∙ ap isCharacter first ∙ preamble-character)
+      (λ (later : 1 ≤ j). ⊎-elim
+      (λ (middle : j < 1 + (length line - 2)).
+      let w = getD line j 0 in
+      ap isCharacter (nibble-word w (between j later middle)) ∙ nibble-character (trueBits w) (true-bits-lt w))
+      (λ (end : 1 + (length line - 2) ≤ j).
+      let is : j ≡ length line - 1 = omega arith in
+      ap (λ (k : ℕ). isCharacter (getD line k 0)) is ∙ ap isCharacter last ∙ stop-character)
+      (below-or-not j (1 + (length line - 2))))
+      (eq-zero-or-pos j)
+
+  characters : firstNoCharacter line ≡ Nowhere
+  unfolding firstNoCharacter
+  characters = passes-nowhere isCharacter line 0 (length line) (λ j lo hi. each-character j (omega arith))
+
+  pub clean-judged : (q : Question) → judgeBytes q line ≡ judgeWords q line
+  unfolding judgeWords
+  clean-judged q = sym (no-place _ _ _ characters ∙ goes-on _ _ _ frame ∙ no-place _ _ _ nibbles)

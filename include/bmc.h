@@ -1,0 +1,261 @@
+/*
+ * bmc.h: the battery bench's wire software, as C sees it.
+ *
+ * Commands written, answers read, cell registers turned into volts, a twin of
+ * a chain of monitors, and the certificate of a job file. The library keeps no
+ * memory of its own between calls, allocates nothing and prints nothing.
+ *
+ * Built for x86-64 and the System V calling convention.
+ *
+ * WORDS AND BYTES. A word of a line, a register's value and a register of the
+ * twin's memory are two bytes each, low byte first, at any alignment. Lengths
+ * count bytes; places count words from 0. An output of an odd number of bytes
+ * has room for the whole words in it: its last byte counts for no room and
+ * stays as it is.
+ *
+ * REFUSALS. A result carries a number in its lowest byte (only bmc_part's does
+ * not, which never refuses): 0 when the call was accepted, else the number of
+ * the first check that failed, in the order given at each call. A refused call
+ * changes no byte of lent memory. What an accepted call does not write stays as
+ * it is. Bits of a result that are not mentioned are 0.
+ *
+ * WHAT THE CALLER OWES, in every call:
+ *  - each pointer is valid for the length beside it, for reading where it is
+ *    const, else for reading and writing, and is not null, not even beside a
+ *    length of 0 (nothing is read or written through it then);
+ *  - memory that a call writes overlaps no other memory lent to that call;
+ *  - no one else changes lent memory while the call runs.
+ * Nothing else is owed, but for bmc_cell's two outputs (see there): every value of
+ * every number has its answer below.
+ */
+#ifndef BMC_H
+#define BMC_H
+
+#include <stddef.h>
+#include <stdint.h>
+
+#ifdef __cplusplus
+extern "C" {
+#endif
+
+/* The kinds of question. */
+enum {
+    BMC_HELLOALL = 0,
+    BMC_WRITEALL = 1,
+    BMC_WRITEDEVICE = 2,
+    BMC_READALL = 3,
+    BMC_READDEVICE = 4
+};
+
+/* The numbers: why a call was turned away. */
+enum {
+    BMC_ACCEPTED = 0,
+    BMC_QUESTION = 1,
+    BMC_ROOM = 2,
+    BMC_LENGTH = 3,
+    BMC_CHARACTER = 4,
+    BMC_FRAME = 5,
+    BMC_MANCHESTER = 6,
+    BMC_ECHO = 7,
+    BMC_PEC = 8,
+    BMC_ALIVE = 9,
+    BMC_CHECK = 10,
+    BMC_COUNT = 11,
+    BMC_CHANNEL = 12,
+    BMC_LOW_BITS = 13,
+    BMC_FILE = 14,
+    BMC_TWIN = 15
+};
+
+/* The longest line: a READALL of 32 devices with the alive byte. */
+#define BMC_LINE_MOST_WORDS 140
+#define BMC_LINE_MOST_BYTES (2 * BMC_LINE_MOST_WORDS)
+
+/* The most devices of a chain, and room for every read's values. */
+#define BMC_MOST_DEVICES 32
+#define BMC_VALUES_MOST_BYTES (2 * BMC_MOST_DEVICES)
+
+/* The twin's memory for a chain of n devices. */
+#define BMC_TWIN_BYTES(n) ((size_t)512 * (n))
+
+/* The longest job file, and memory that holds the text of every certificate. */
+#define BMC_FILE_MOST_BYTES 65536
+#define BMC_CERTIFICATE_MOST 82143
+
+/* Every result but bmc_part's: the number. */
+#define BMC_NUMBER(result) ((uint8_t)((result) & 0xFFu))
+
+/* bmc_read: the byte of CHECK and COUNT, the count of an accepted HELLOALL. */
+#define BMC_BYTE(result) ((uint8_t)((result) >> 8 & 0xFFu))
+
+/* bmc_read: the place of CHARACTER and MANCHESTER. */
+#define BMC_PLACE(result) ((uint16_t)((result) >> 16 & 0xFFFFu))
+
+/* bmc_read, bmc_command, when accepted: the values or words written. */
+#define BMC_WRITTEN(result) ((uint16_t)((result) >> 16 & 0xFFFFu))
+
+/* bmc_part: how many words the part has, and the place of its first. */
+#define BMC_PART_WORDS(result) ((uint8_t)((result) & 0xFFu))
+#define BMC_PART_PLACE(result) ((uint16_t)((result) >> 16 & 0xFFFFu))
+
+/* bmc_cell: 1 when the cell was measured and both outputs were written. */
+#define BMC_MEASURED(result) ((uint8_t)((result) >> 8 & 0xFFu))
+
+/* bmc_certificate: the bytes of text written. */
+#define BMC_TEXT_BYTES(result) ((uint32_t)(result) >> 8)
+
+/*
+ * A QUESTION is seven numbers: the kind, the number n of devices in the chain,
+ * alive (1 when the alive byte is on), the register, the value of a write, the
+ * device of WRITEDEVICE and READDEVICE, and the seed (the alive byte sent). A
+ * field that the kind does not use may hold anything. HELLOALL looks at kind
+ * and alive only. A question is bad (QUESTION) exactly when
+ *  - kind is above 4, or alive is neither 0 nor 1;
+ *  - for kinds 1 to 4, n is not 1..32;
+ *  - for kinds 2 and 4, device is n or more.
+ *
+ * Command and answer are lines of equal length: preamble, two characters a byte,
+ * stop. Their bytes, a standing for device, s for seed, [..] only with alive 1:
+ *   HELLOALL     57 00 00                        57 00 count
+ *   WRITEALL     02 reg lo hi PEC [s]            02 reg lo hi PEC [s+n]
+ *   WRITEDEVICE  8a+4 reg lo hi PEC [s]          8a+4 reg lo hi PEC [s+1]
+ *   READALL      03 reg 00 PEC [s] n x (C2 D3)   03 reg n x (lo hi) check PEC [s+n]
+ *   READDEVICE   8a+5 reg 00 PEC [s] C2 D3       8a+5 reg lo hi check PEC [s+1]
+ * READALL's values come from address n-1 down to 0. The PEC covers every byte
+ * before it.
+ */
+
+/*
+ * Reads the answer to a question. In this order:
+ *   QUESTION    the question is bad;
+ *   ROOM        out is shorter than the values: n words for READALL, one for
+ *               READDEVICE, none for the other kinds;
+ *   LENGTH      line_bytes is odd, or is not the answer's length: 8 words for
+ *               HELLOALL, 12 + 2 * alive for writes, 14 + 2 * alive for
+ *               READDEVICE, 10 + 4 * n + 2 * alive for READALL; so every line
+ *               of more than 140 words is LENGTH here;
+ *   CHARACTER   a word has one of bits 12..15 set, start bit 1, a stop bit 0 or
+ *               odd parity; BMC_PLACE is the lowest such place;
+ *   FRAME       the first word is no preamble or the last no stop character;
+ *   MANCHESTER  a word between is no nibble; BMC_PLACE is the lowest such place;
+ *   ECHO        the first or second byte, or a write's value, is not as asked;
+ *   PEC         the PEC is wrong (not for HELLOALL);
+ *   ALIVE       alive is 1 and the alive byte is not the seed plus the devices
+ *               that act, modulo 256 (not for HELLOALL);
+ *   CHECK       a read's check byte is not 00h; BMC_BYTE is that byte;
+ *   COUNT       HELLOALL's last byte is 0 or above 32; BMC_BYTE is that byte.
+ * Accepted: a read's values stand at the front of out in address order, lowest
+ * first, and BMC_WRITTEN is how many (n, or 1). For HELLOALL BMC_BYTE is the
+ * count on the line, whatever n is. HELLOALL and writes write nothing and
+ * BMC_WRITTEN is 0.
+ */
+uint32_t bmc_read(uint8_t kind, uint8_t n, uint8_t alive, uint8_t reg,
+                  uint16_t value, uint8_t device, uint8_t seed,
+                  const uint8_t *line, size_t line_bytes,
+                  uint8_t *out, size_t out_bytes);
+
+/*
+ * Writes the command of a question. In this order:
+ *   QUESTION  the question is bad;
+ *   ROOM      out is shorter than the command: as many words as its answer has
+ *             (see LENGTH above).
+ * Accepted: the command's words stand at the front of out and BMC_WRITTEN is
+ * how many.
+ */
+uint32_t bmc_command(uint8_t kind, uint8_t n, uint8_t alive, uint8_t reg,
+                     uint16_t value, uint8_t device, uint8_t seed,
+                     uint8_t *out, size_t out_bytes);
+
+/*
+ * Where a named device's register stands in an answer. Never refuses. When
+ * bmc_read with room enough accepts this line for this question, the question
+ * is a READALL or READDEVICE, and it covers the named device (READALL: named
+ * below n; READDEVICE: named equal to device), BMC_PART_WORDS is 4 and
+ * BMC_PART_PLACE the place of the first of the four words that carry the
+ * register: low byte's low nibble, its high nibble, then the high byte's. In
+ * every other case, an odd line_bytes among them, the part is empty and the
+ * result is 0.
+ */
+uint32_t bmc_part(uint8_t kind, uint8_t n, uint8_t alive, uint8_t reg,
+                  uint16_t value, uint8_t device, uint8_t seed, uint8_t named,
+                  const uint8_t *line, size_t line_bytes);
+
+/*
+ * A cell's voltage from its register. The measurement m is the register divided
+ * by 4; the voltage is m * 5/16384 V where bipolar is 0, (m - 8192) * 5/16384 V
+ * where it is 1. Bit c-1 of enabled stands for cell c; bits 12 to 15 mean
+ * nothing. In this order:
+ *   QUESTION  bipolar is neither 0 nor 1;
+ *   CHANNEL   cell is not 1..12;
+ *   (the cell is not enabled: accepted, not measured, whatever reg holds)
+ *   LOW BITS  either of the register's two lowest bits is 1.
+ * BMC_MEASURED is 1 exactly when the call is accepted and the cell is enabled.
+ * Only then are the outputs written: whole microvolts, nearest, a half going
+ * away from zero, and the exact voltage in volts, zero being plus zero.
+ * The caller owes microvolts and volts valid, aligned for their types and
+ * apart from each other, also where they will not be written.
+ */
+uint32_t bmc_cell(uint8_t cell, uint16_t enabled, uint16_t reg, uint8_t bipolar,
+                  int32_t *microvolts, float *volts);
+
+/*
+ * The certificate of a job file, as text; no zero byte closes it. A job file is
+ * a header (the bytes 'B' 'M' 'C', version 1 in two bytes, n, alive) and entries
+ * (kind, register, value in two bytes, device, seed, number of words in two
+ * bytes, the answer's words), low bytes first. In this order:
+ *   FILE  the file is longer than 65,536 bytes; the header is cut short or wrong
+ *         or its n not 1..32; an entry has a kind above 4, is cut short, has more
+ *         than 140 words, or has a field not 0 that its kind does not use (the
+ *         seed too where alive is 0, and for HELLOALL);
+ *   ROOM  text is shorter than the certificate.
+ * Accepted: the certificate stands at the front of text and BMC_TEXT_BYTES is
+ * its length. With text_bytes of BMC_CERTIFICATE_MOST or more it is never ROOM.
+ * Its lines, each with its line feed: 'BMC 1 n'; for each entry 'E i r', i from
+ * 1, r the number that bmc_read gives with room for 32 values; and for each
+ * device that the last write with a good question covers, in address order,
+ * 'D a v', where v is S or O as the latest accepted read of that register after
+ * the write that covers the device gave the value written or another, and U
+ * where there is no such read. For FILE nothing is written.
+ */
+uint32_t bmc_certificate(const uint8_t *file, size_t file_bytes,
+                         uint8_t *text, size_t text_bytes);
+
+/*
+ * Fills a twin's memory with the registers after power-on. Device k's register
+ * r is word 256 * k + r.
+ *   TWIN  n is not 1..32, or memory_bytes is not exactly 512 * n.
+ * Accepted: the whole memory is written. In each device 00h is 8236h, 02h 8000h,
+ * 0Ah 0F0Fh, 10h 0002h, 1Eh 000Ch, 40h, 42h and 48h FFFCh, 4Ah FFF0h; every
+ * other register is 0000h.
+ */
+uint32_t bmc_twin_power_on(uint8_t n, uint8_t *memory, size_t memory_bytes);
+
+/*
+ * One device of the twin takes a line and hands on a line of equal length. In
+ * this order:
+ *   TWIN    n is not 1..32, or memory_bytes is not exactly 512 * n, or device
+ *           is n or more;
+ *   LENGTH  line_bytes is odd, or the line has more than 140 words;
+ *   ROOM    out is shorter than the line.
+ * Accepted: the line handed on stands at the front of out. The device acts only
+ * on a line that is a command to this chain of n, for this device, as the devices
+ * before it would have left it: HELLOALL with the last byte equal to device;
+ * READALL with the values of as many devices as stand before it, check 00h, and
+ * the fill pairs that are left; always with the right PEC. It then adds one to
+ * HELLOALL's last byte; or takes a write's value into its register (00h keeps its
+ * own); or puts its register directly behind the register byte, drops one fill
+ * pair and works the PEC afresh; and adds one to the alive byte, after FFh 00h.
+ * Every other line is handed on as it came and memory stays. For a READALL,
+ * check byte and PEC stand behind the values already on the line.
+ * line, out and memory lie apart.
+ */
+uint32_t bmc_twin_step(uint8_t n, uint8_t device,
+                       uint8_t *memory, size_t memory_bytes,
+                       const uint8_t *line, size_t line_bytes,
+                       uint8_t *out, size_t out_bytes);
+
+#ifdef __cplusplus
+}
+#endif
+
+#endif

@@ -1,0 +1,229 @@
+/*
+ * host.h: what the files of the host program share.
+ *
+ * The host program calls the library through bmc.h and holds every result and
+ * every lent byte beside what the reference second.c says. It stops at the
+ * first difference. Its parts share random figures that a seed determines,
+ * memory lent between guards, and answers and job files built from document 01
+ * for the library to read.
+ */
+#ifndef HOST_H
+#define HOST_H
+
+#include "bmc.h"
+#include "second.h"
+
+/* ---- host_random.c: random figures -------------------------------------- */
+
+void seed_random(uint64_t seed);
+uint64_t random_seed(void);
+uint64_t any64(void);
+unsigned any(unsigned below);                       /* 0 .. below - 1 */
+unsigned between(unsigned low, unsigned high);      /* both included */
+uint8_t other_byte(uint8_t than);
+void any_bytes(uint8_t *to, size_t count);
+
+/* A count of trials, or a seventh of it in a quick run. */
+extern int quick;
+unsigned long rounds(unsigned long full);
+
+/* ---- host_report.c: what is tried, the report, counts ------------------- */
+
+/* What is being tried, for the report of a difference. */
+struct given {
+    const char *name;
+    const uint8_t *at;
+    size_t bytes;
+};
+struct trial {
+    const char *call;
+    const char *names;              /* of the figures, in order */
+    unsigned long figures[8];
+    size_t figure_count;
+    struct given given[2];
+};
+extern struct trial trial;
+#define QUESTION_NAMES "kind n alive reg value device seed "
+void set_trial(const char *call, const char *names, const unsigned long *figures,
+               size_t count);
+void set_question(const char *call, const char *names, struct s_question q,
+                  unsigned long last);
+
+/* One side's answer: the result and the memory it wrote into. */
+struct side {
+    uint32_t result;
+    const uint8_t *memory;
+    size_t bytes;
+};
+
+/* Ends the run with a report unless both sides are the same. */
+void settle(const char *memory, struct side library, struct side reference);
+
+/* Ends the run with a report unless what the document says holds. */
+void must(int holds, const char *what);
+
+/* Counts one input of the part that runs, by its number. */
+void start_part(const char *name);
+void count_input(unsigned number);
+void count_part(unsigned words);
+void need_numbers(unsigned lowest, unsigned highest);
+void print_counts(void);
+unsigned long inputs_compared(void);
+
+/* ---- host_lend.c: lent memory ------------------------------------------- */
+
+enum { GUARD = 16 };
+
+struct lent {
+    uint8_t *low, *high;            /* what may be touched at all */
+    uint8_t *at;
+    size_t bytes;
+    uint8_t guard[GUARD];
+};
+
+void make_lent(struct lent *m, size_t most);
+uint8_t *lend(struct lent *m, size_t bytes);                /* random content */
+uint8_t *lend_copy(struct lent *m, const uint8_t *from, size_t bytes);
+void check_guards(const struct lent *m);
+void check_input(const struct lent *m, const uint8_t *from);
+void report_stray_access(void);
+
+/* ---- host_expect.c: what the reference says, in the library's form ------ */
+
+uint32_t expect_read(struct s_question q, const uint8_t *line, size_t line_bytes,
+                     uint8_t *out, size_t out_bytes);
+uint32_t expect_command(struct s_question q, uint8_t *out, size_t out_bytes);
+uint32_t expect_part(struct s_question q, unsigned named,
+                     const uint8_t *line, size_t line_bytes);
+uint32_t expect_cell(unsigned cell, unsigned enabled, unsigned reg,
+                     unsigned bipolar, int32_t *microvolts, float *volts);
+uint32_t expect_certificate(const uint8_t *file, size_t file_bytes,
+                            uint8_t *text, size_t text_bytes);
+uint32_t expect_power_on(unsigned n, uint8_t *memory, size_t memory_bytes);
+uint32_t expect_step(unsigned n, unsigned device,
+                     uint8_t *memory, size_t memory_bytes,
+                     const uint8_t *line, size_t line_bytes,
+                     uint8_t *out, size_t out_bytes);
+
+/* ---- host_answers.c: questions and their right answers ------------------ */
+
+enum { REPLY_WORDS = 160, REPLY_BYTES = 2 * REPLY_WORDS + 1 };
+
+/* An answer under way: its bytes, its words, the line as lent, and the room
+ * lent for its values. */
+struct reply {
+    struct s_question q;
+    uint16_t values[BMC_MOST_DEVICES];      /* lowest address first */
+    uint8_t bytes[BMC_LINE_MOST_WORDS / 2];
+    size_t byte_count;
+    uint16_t words[REPLY_WORDS];
+    size_t word_count;
+    uint8_t line[REPLY_BYTES];
+    size_t line_bytes;
+    size_t room;
+};
+
+int is_read(unsigned kind);
+int is_write(unsigned kind);
+size_t values_of(struct s_question q);
+size_t words_of(struct s_question q);               /* of command and answer */
+struct s_question any_question(unsigned kind);      /* a good one */
+struct s_question bad_question(void);
+uint16_t character_of(unsigned data);
+uint16_t nibble_word(unsigned nibble);
+void put_slice(const uint16_t *words, size_t count, uint8_t *to);
+size_t any_room(size_t words);                      /* enough, in bytes */
+
+/* An answer step by step ... */
+void set_question_of(struct reply *r, struct s_question q);
+void put_right_bytes(struct reply *r);
+size_t pec_place(const struct reply *r);
+void put_pec(struct reply *r);
+void put_words(struct reply *r);
+void put_line(struct reply *r);
+
+/* ... or at once, with random values. */
+void put_right_answer(struct reply *r, struct s_question q);
+
+/* ---- host_spoil.c: answers damaged row by row --------------------------- */
+
+/* A damage that makes a right answer meet one row of 'Turned away'. */
+struct damage {
+    const char *rule;
+    unsigned number;
+    unsigned kinds;                         /* bit k: it fits kind k */
+    void (*bytes)(struct reply *);
+    void (*words)(struct reply *);
+    void (*slice)(struct reply *);
+};
+
+extern const struct damage damages[];
+extern const size_t damage_count;
+int fits(const struct damage *d, unsigned kind);
+struct s_question fitting_question(const struct damage *d);
+void put_damaged(struct reply *r, struct s_question q,
+                 const struct damage *const *chosen, size_t count);
+
+/* ---- host_jobs.c: job files --------------------------------------------- */
+
+enum { JOB_MOST = 66000, JOB_ENTRIES = 8192 };
+
+struct job {
+    uint8_t bytes[JOB_MOST];
+    size_t count;
+    size_t entries[JOB_ENTRIES];            /* where each entry starts */
+    size_t entry_count;
+};
+
+void put_header(struct job *j, unsigned n, unsigned alive);
+void put_entry(struct job *j, struct s_question q, const uint16_t *words, size_t count);
+void put_any_job(struct job *j);
+void put_empty_entries(struct job *j, size_t up_to);
+void put_full_job(struct job *j, unsigned alive);
+
+/* ---- The calls, each compared with the reference ------------------------ */
+
+uint32_t compare_read(const struct reply *r);       /* values: see read_values */
+const uint8_t *read_values(void);                   /* the last compared read's */
+uint32_t compare_part(const struct reply *r, unsigned named);
+uint32_t compare_command(struct s_question q, size_t room);
+const uint8_t *command_words(void);                 /* the last compared one's */
+uint32_t compare_cell(unsigned cell, unsigned enabled, unsigned reg,
+                      unsigned bipolar, int32_t *microvolts, float *volts);
+uint32_t compare_power_on(unsigned n, size_t memory_bytes);
+const uint8_t *power_on_memory(void);               /* the last compared one's */
+uint32_t compare_certificate(const uint8_t *file, size_t file_bytes, size_t room);
+const uint8_t *certificate_text(void);              /* the last compared one's */
+
+/* ---- host_twin.c and host_rough.c: twin chains -------------------------- */
+
+enum { MEMORY_MOST = 512 * 42, LINE_MOST = 320 };
+
+struct chain {
+    unsigned n;
+    uint8_t memory[MEMORY_MOST];
+    size_t memory_bytes;
+    uint8_t line[LINE_MOST];
+    size_t line_bytes;
+};
+
+void set_chain(struct chain *c, unsigned n);
+unsigned some_chain(void);                          /* a number of devices */
+struct s_question chain_question(unsigned n);
+void put_command(struct chain *c, struct s_question q);
+void put_some_line(struct chain *c);
+uint32_t compare_step(struct chain *c, unsigned device, size_t room);
+void try_rough(struct chain *c);
+void try_nearly_right_chains(struct chain *c);
+
+/* ---- The parts, each in its own file ------------------------------------ */
+
+void try_worked_numbers(void);
+void try_reads(void);
+void try_distance(void);
+void try_commands(void);
+void try_cells(void);
+void try_twin(void);
+void try_certificates(void);
+
+#endif

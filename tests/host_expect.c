@@ -1,0 +1,150 @@
+/*
+ * host_expect.c: what the reference says, in the library's form.
+ *
+ * second.c speaks of words and of structs, bmc.h of bytes and packed results.
+ * A line that second.c cannot be given (an odd number of bytes, or too many)
+ * is handed over as an empty one, whose length is as wrong.
+ */
+#include "host.h"
+
+static const uint16_t no_words[1];
+
+static void to_words(const uint8_t *bytes, size_t words, uint16_t *to)
+{
+    for (size_t i = 0; i < words; i++)
+        to[i] = (uint16_t)(bytes[2 * i] | bytes[2 * i + 1] << 8);
+}
+
+static void to_bytes(const uint16_t *words, size_t count, uint8_t *to)
+{
+    for (size_t i = 0; i < count; i++) {
+        to[2 * i] = (uint8_t)words[i];
+        to[2 * i + 1] = (uint8_t)(words[i] >> 8);
+    }
+}
+
+static int is_line(size_t line_bytes)
+{
+    return line_bytes % 2 == 0 && line_bytes <= BMC_LINE_MOST_BYTES;
+}
+
+static size_t line_words(const uint8_t *line, size_t line_bytes, uint16_t *words)
+{
+    if (!is_line(line_bytes))
+        return 0;
+    to_words(line, line_bytes / 2, words);
+    return line_bytes / 2;
+}
+
+/* Whole words of room, and no more than the memory here has. */
+static size_t room_words(size_t bytes, size_t most)
+{
+    return bytes / 2 < most ? bytes / 2 : most;
+}
+
+static uint32_t packed(unsigned number, unsigned byte, size_t high)
+{
+    return number | byte << 8 | (uint32_t)high << 16;
+}
+
+uint32_t expect_read(struct s_question q, const uint8_t *line, size_t line_bytes,
+                     uint8_t *out, size_t out_bytes)
+{
+    uint16_t words[BMC_LINE_MOST_WORDS], values[BMC_MOST_DEVICES];
+    size_t count = line_words(line, line_bytes, words);
+    struct s_answer a = s_read(q, words, count, values,
+                               room_words(out_bytes, BMC_MOST_DEVICES));
+    if (a.number != S_ACCEPTED)
+        return packed((unsigned)a.number, a.byte, a.place);
+    to_bytes(values, a.values, out);
+    return packed(0, a.count, a.values);
+}
+
+uint32_t expect_command(struct s_question q, uint8_t *out, size_t out_bytes)
+{
+    uint16_t words[BMC_LINE_MOST_WORDS];
+    size_t written;
+    int number = s_command(q, words, room_words(out_bytes, BMC_LINE_MOST_WORDS),
+                           &written);
+    to_bytes(words, written, out);
+    return packed((unsigned)number, 0, written);
+}
+
+uint32_t expect_part(struct s_question q, unsigned named,
+                     const uint8_t *line, size_t line_bytes)
+{
+    uint16_t words[BMC_LINE_MOST_WORDS];
+    size_t start, length, count = line_words(line, line_bytes, words);
+    s_part(q, named, words, count, &start, &length);
+    return packed((unsigned)length, 0, start);
+}
+
+uint32_t expect_cell(unsigned cell, unsigned enabled, unsigned reg,
+                     unsigned bipolar, int32_t *microvolts, float *volts)
+{
+    int measured = 0;
+    int32_t whole;
+    float single;
+    if (bipolar > 1)
+        return packed(S_QUESTION, 0, 0);
+    int number = s_cell(cell, enabled, reg, (int)bipolar, &measured, &whole, &single);
+    if (number == S_ACCEPTED && measured) {
+        *microvolts = whole;
+        *volts = single;
+    }
+    return packed((unsigned)number, (unsigned)measured, 0);
+}
+
+uint32_t expect_certificate(const uint8_t *file, size_t file_bytes,
+                            uint8_t *text, size_t text_bytes)
+{
+    size_t written;
+    int number = s_certificate(file, file_bytes, (char *)text, text_bytes, &written);
+    return (uint32_t)number | (uint32_t)written << 8;
+}
+
+/* An odd number of bytes is no number of words: no chain has 3 of them. */
+static size_t memory_words(size_t memory_bytes)
+{
+    return memory_bytes % 2 == 0 ? memory_bytes / 2 : 3;
+}
+
+uint32_t expect_power_on(unsigned n, uint8_t *memory, size_t memory_bytes)
+{
+    uint16_t registers[256 * BMC_MOST_DEVICES];
+    size_t count = memory_words(memory_bytes);
+    int number = s_power_on(n, registers, count);
+    if (number == S_ACCEPTED)
+        to_bytes(registers, count, memory);
+    return (uint32_t)number;
+}
+
+/* An empty line passes every device unchanged: only TWIN can refuse it. */
+static int is_twin(unsigned n, unsigned device, size_t memory_bytes)
+{
+    uint16_t registers[256 * BMC_MOST_DEVICES], none[1];
+    return s_step(n, device, registers, memory_words(memory_bytes),
+                  no_words, 0, none, 0) != S_TWIN;
+}
+
+uint32_t expect_step(unsigned n, unsigned device,
+                     uint8_t *memory, size_t memory_bytes,
+                     const uint8_t *line, size_t line_bytes,
+                     uint8_t *out, size_t out_bytes)
+{
+    uint16_t registers[256 * BMC_MOST_DEVICES];
+    uint16_t words[BMC_LINE_MOST_WORDS], next[BMC_LINE_MOST_WORDS];
+    if (!is_twin(n, device, memory_bytes))
+        return S_TWIN;
+    if (!is_line(line_bytes))
+        return S_LENGTH;
+    size_t count = line_words(line, line_bytes, words);
+    to_words(memory, memory_bytes / 2, registers);
+    int number = s_step(n, device, registers, memory_bytes / 2, words, count,
+                        next, room_words(out_bytes, BMC_LINE_MOST_WORDS));
+    if (number != S_ACCEPTED)
+        return (uint32_t)number;
+    to_bytes(registers, memory_bytes / 2, memory);
+    to_bytes(next, count, out);
+    return S_ACCEPTED;
+}
