@@ -2,7 +2,7 @@
  * second.c: an independent reference for the battery-bench line.
  *
  * Written from documents 01 (scope and rules) and 004 (MAX17823B data sheet)
- * alone; shares no code with the proved crates. See second.h for what each
+ * and the readings in docs/DECISIONS.md; shares no code with the proved crates. See second.h for what each
  * call does and what its caller owes.
  */
 #include "second.h"
