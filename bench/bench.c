@@ -9,9 +9,6 @@
  *
  * Before anything is timed, both sides must agree on every input, output bytes
  * included. The figures are printed and never judged: no time is a failure.
- *
- * With HAVE_BMC_PEC defined the PEC alone is timed as well, through
- * uint32_t bmc_pec(const uint8_t *bytes, size_t n).
  */
 #define _DEFAULT_SOURCE
 #include "bmc.h"
@@ -21,10 +18,6 @@
 #include <stdlib.h>
 #include <string.h>
 #include <time.h>
-
-#ifdef HAVE_BMC_PEC
-uint32_t bmc_pec(const uint8_t *bytes, size_t n);
-#endif
 
 /* ---- The inputs --------------------------------------------------------- */
 
@@ -158,7 +151,6 @@ static uint32_t plain_certificate_of(void)
     return plain_certificate(file, file_bytes, text[1], BMC_CERTIFICATE_MOST);
 }
 
-#ifdef HAVE_BMC_PEC
 static uint32_t our_pec(void)
 {
     return bmc_pec(good, 64);
@@ -168,7 +160,6 @@ static uint32_t plain_pec_of(void)
 {
     return plain_pec(good, 64);
 }
-#endif
 
 /* A call on both sides, the number it must give, and the words it stands for
  * on the line (0: the file's). */
@@ -184,9 +175,7 @@ static const struct bench {
     { "read 140 words, CHARACTER at 70", our_bad_word, plain_bad_word,
       BMC_CHARACTER, 140 },
     { "write READALL of 32 devices", our_command, plain_command_of, BMC_ACCEPTED, 140 },
-#ifdef HAVE_BMC_PEC
     { "PEC of 64 bytes", our_pec, plain_pec_of, -1, 128 },
-#endif
     { "certificate of a 64 KiB file", our_certificate, plain_certificate_of,
       BMC_ACCEPTED, 0 }
 };
@@ -280,9 +269,23 @@ static void run_bench(const struct bench *b)
     print_bench(b, median(ours), median(plain));
 }
 
-int main(void)
+/* Some calls of one side and nothing else, for a counter of instructions. */
+static int only_calls(const struct bench *b, int plain, long times)
+{
+    uint32_t sum = 0;
+    for (long i = 0; i < times; i++)
+        sum += plain ? b->plain() : b->ours();
+    sink = sum;
+    return 0;
+}
+
+/* bench: the times. bench ROW SIDE TIMES: that row's call (from 0), ours (0) or
+ * plain (1), so many times. */
+int main(int argc, char **argv)
 {
     make_inputs();
+    if (argc == 4 && atoi(argv[1]) >= 0 && atoi(argv[1]) < BENCHES)
+        return only_calls(&benches[atoi(argv[1])], atoi(argv[2]), atol(argv[3]));
     for (int i = 0; i < BENCHES; i++)
         check_agreement(&benches[i]);
     printf("library and plain C agree on all %d inputs; the file has %zu bytes\n",

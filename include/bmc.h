@@ -13,8 +13,8 @@
  * has room for the whole words in it: its last byte counts for no room and
  * stays as it is.
  *
- * REFUSALS. A result carries a number in its lowest byte (only bmc_part's does
- * not, which never refuses): 0 when the call was accepted, else the number of
+ * REFUSALS. A result carries a number in its lowest byte (only bmc_part's and
+ * bmc_pec's do not, which never refuse): 0 when the call was accepted, else the number of
  * the first check that failed, in the order given at each call. A refused call
  * changes no byte of lent memory. What an accepted call does not write stays as
  * it is. Bits of a result that are not mentioned are 0.
@@ -253,6 +253,12 @@ uint32_t bmc_twin_step(uint8_t n, uint8_t device,
                        uint8_t *memory, size_t memory_bytes,
                        const uint8_t *line, size_t line_bytes,
                        uint8_t *out, size_t out_bytes);
+
+/*
+ * The PEC of some bytes, 0..255, every byte in its turn from 0; of no bytes 0.
+ * It refuses nothing and writes nothing.
+ */
+uint32_t bmc_pec(const uint8_t *bytes, size_t byte_count);
 
 #ifdef __cplusplus
 }

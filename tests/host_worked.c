@@ -8,6 +8,40 @@
 
 #include <string.h>
 
+/* ---- The PEC ------------------------------------------------------------ */
+
+static uint32_t compare_pec(const uint8_t *bytes, size_t count)
+{
+    const unsigned long figures[1] = { count };
+    set_trial("bmc_pec", "bytes", figures, 1);
+    trial.given[0] = (struct given){ "bytes", bytes, count };
+    uint32_t result = bmc_pec(bytes, count);
+    settle("bytes", (struct side){ result, bytes, count },
+           (struct side){ s_pec(bytes, count), bytes, count });
+    count_input(0);
+    return result;
+}
+
+/* The document's six, and bytes of every length up to some hundred: the library
+ * takes four at a time. */
+static void try_pecs(void)
+{
+    static const uint8_t read[] = { 0x03, 0x12, 0x00, 0x00, 0x00 };
+    uint8_t bytes[300] = { 0x01 };
+    must(compare_pec(bytes, 0) == 0x00, "the PEC of nothing");
+    must(compare_pec(bytes, 1) == 0x3E, "the PEC of 01");
+    bytes[0] = 0x02;
+    must(compare_pec(bytes, 1) == 0x7C, "the PEC of 02");
+    must(compare_pec(read, 1) == 0x42, "the PEC of 03");
+    must(compare_pec(read, 3) == 0xCB, "the PEC of 03 12 00");
+    must(compare_pec(read, 5) == 0xBC, "the PEC of 03 12 00 00 00");
+    for (unsigned long i = 0; i < rounds(100000); i++) {
+        size_t count = any(sizeof bytes + 1);
+        any_bytes(bytes, count);
+        compare_pec(bytes, count);
+    }
+}
+
 /* ---- Lines -------------------------------------------------------------- */
 
 static void set_bytes(struct reply *r, const uint8_t *bytes, size_t count)
@@ -157,6 +191,7 @@ static void try_worked_certificate(void)
 
 void try_worked_numbers(void)
 {
+    try_pecs();
     try_worked_readall();
     try_hello();
     check_alive(1, 0xFF, 0x00);

@@ -980,9 +980,13 @@ static void check_twin_hello(void)
             size_t words = wire(bytes, 3, line);
             check(acts(32, k, line, words) == (byte == k), "HELLOALL at device k");
         }
-    size_t words = read_all_line(32, 0, 0, 0x00, line);
-    line[1] = spell_nibble(1);
-    check(!acts(32, 0, line, words), "ROLLCALL passes");
+    /* 004's two commands that 01 has not: ROLLCALL with its right PEC, and the
+     * HELLOALL of another device. */
+    uint8_t rollcall[] = { 0x01, 0x00, 0x00, 0x00, 0xC2, 0xD3 };
+    rollcall[3] = (uint8_t)s_pec(rollcall, 3);
+    check(!acts(1, 0, line, wire(rollcall, sizeof rollcall, line)), "ROLLCALL passes");
+    uint8_t hello[] = { 0xA7, 0x00, 0x00 };
+    check(!acts(32, 0, line, wire(hello, sizeof hello, line)), "HELLOALL A7h passes");
 }
 
 /* TWIN, then ROOM; nothing changes. */

@@ -20,7 +20,7 @@ use Rattle.printing.proofs.Lengths.{longest}
 use Rattle.certificate.specs.declared.Certified.the-variants.{Bytes, File}
 use Rattle.certificate.specs.declared.Certified.the-variants as certified
 use Rattle.certificate.specs.Certificate.{heardIn, numbersOf, standingOf, certificateOf, certifiedOf}
-use Rattle.certificate.proofs.Telling.{countable}
+use Rattle.certificate.proofs.Certifying.{countable}
 
 -- no number of the table is above 99
 number-small : (r : Reading) → numberOf r < 100

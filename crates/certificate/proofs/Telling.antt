@@ -1,68 +1,22 @@
 -- Entries heard and told one after the other: what stands after each, and after the last.
-use mathlib.Core.Path.{_≡_, refl, sym, ap, ap₂, subst, _∙_}
-use mathlib.Core.Bool.{Bool, true, false, cond}
+use mathlib.Core.Path.{_≡_, refl, sym, ap, ap₂, _∙_}
+use mathlib.Core.Bool.{true}
 use mathlib.Core.List.{List, [], _∷_, _++_, map, append-assoc, append-nil}
 use Prim.Native.Nat.{ℕ, _+_, _-_, _*_, _≤_, _<_}
 use native.Mathlib.Numerals.{add-one}
 use native.Mathlib.Omega.{arith}
-use lib.Dec.{leb}
-use lib.ListN.{length, take, drop, length-drop, length-set, length-map}
-use lib.Seq.{sets, take-at, take-suc-set}
-use borrow.Author.Tests.{le-leb}
-use Rattle.ground.proofs.Sweep.{length-tabulated}
-use Rattle.ground.proofs.Lists.{sets-front}
-use Rattle.lines.specs.Write.{atFront}
-use Rattle.packing.specs.Words.{wordsOf}
-use Rattle.packing.proofs.Back.{length-words}
-use Rattle.questions.specs.declared.question.Question.{Question}
-use Rattle.readings.specs.Reading.{numberOf, valuesTaken}
-use Rattle.readings.specs.declared.Reading.{Reading}
-use Rattle.judging.specs.Judge.{judgeOf}
-use Rattle.reader.specs.Read.{valueAt, valuesOn, ReadDone}
+use lib.ListN.{length, take, drop, length-set}
+use lib.Seq.{take-suc-set}
 use Rattle.jobs.specs.declared.Header.{Header}
 use Rattle.jobs.specs.Check.{wordsIn, goodEntries, entriesIn, goodFile, headerIn}
 use Rattle.jobs.proofs.Placed.{entry-within}
-use Rattle.jobs.proofs.Entries.{good, first-good, good-here, entries-here, no-more-entries, few-entries, parts}
+use Rattle.jobs.proofs.Entries.{first-good, good-here, entries-here, no-more-entries, parts}
 use Rattle.letters.specs.declared.Standing.{Standing}
 use Rattle.letters.specs.Letters as letters
-use Rattle.letters.specs.Letters.{hearOf, heardFrom, begun}
-use Rattle.printing.specs.Text.{certificateText}
-use Rattle.printing.specs.Print.{printedOf, textAfter, PrintDone}
-use Rattle.printing.specs.declared.Printed.{Printed}
-use Rattle.printing.specs.declared.Printed.the-variants as printed
-use Rattle.certificate.specs.declared.Certified.the-variants.{Bytes, File, Room}
+use Rattle.letters.specs.Letters.{heardFrom, begun}
 use Rattle.certificate.specs.declared.Told.{Told}
-use Rattle.certificate.specs.declared.Heard.{Heard}
-use Rattle.certificate.specs.Certificate.{heardAs, heardOf, heardIn, numberFor, numbersOf, standingOf, certificateOf, certifiedOf, CertificateDone}
-use Rattle.certificate.specs.Certificate as certificate
-use Rattle.certificate.specs.Telling.{heardNow, heardHere, ToldOne, ToldAll, certifiedAs}
-
--- ---- one entry heard
-
--- the words at the front of the buffer are the entry's
-pub line-read : (blank bytes : List ℕ) (words : ℕ) → length bytes ≡ 2 * words → words ≤ length blank → take words (sets blank 0 (wordsOf bytes)) ≡ wordsOf bytes
-line-read blank bytes words even fits =
-    let number : length (wordsOf bytes) ≡ words = omega (arith, length-words bytes) in
-    ap (take words) (sets-front (wordsOf bytes) blank (omega (arith, number))) ∙ take-at (wordsOf bytes) (drop (length (wordsOf bytes)) blank) words number
-
--- the values at the front of the room are those handed out
-pub values-read : (line room : List ℕ) (m : ℕ) → take m (atFront (valuesOn line m) room) ≡ valuesOn line m
-values-read line room m = take-at (valuesOn line m) (drop (length (valuesOn line m)) room) m (length-tabulated (valueAt line m) m 0)
-
-pub heard-is : (s after : Standing) (q : Question) (line line′ room room′ : List ℕ) (reading : Reading) (taken number : ℕ)
-    → line′ ≡ line → length room ≡ 32 → ReadDone q line′ room room′ reading → taken ≡ valuesTaken reading → number ≡ numberOf reading
-    → after ≡ hearOf s q reading (take taken room′) → _≡_ {A = Heard} (record { number = number; standing = after }) (heardNow s (heardAs q line))
-heard-is s after q line line′ room room′ reading taken number same size done count is next =
-    let says : reading ≡ judgeOf q line 32 = done .says ∙ ap₂ (λ (l : List ℕ) (n : ℕ). judgeOf q l n) same size in
-    let m = valuesTaken (judgeOf q line 32) in
-    let many : taken ≡ m = count ∙ ap valuesTaken says in
-    let leaves : room′ ≡ atFront (valuesOn line m) room =
-    done .leaves ∙ ap₂ (λ (l : List ℕ) (n : ℕ). atFront (valuesOn l (valuesTaken (judgeOf q l n))) room) same size in
-    let values : take taken room′ ≡ valuesOn line m = ap₂ take many leaves ∙ values-read line room m in
-    ap₂ (λ (n : ℕ) (t : Standing). record { number = n; standing = t }) (is ∙ ap numberOf says)
-    (next ∙ ap₂ (λ (r : Reading) (v : List ℕ). hearOf s q r v) says values)
-
--- ---- all entries
+use Rattle.certificate.specs.Certificate.{heardOf, heardIn, numberFor, numbersOf}
+use Rattle.certificate.specs.Telling.{heardHere, ToldOne, ToldAll}
 
 -- what is left to hear from a place on
 abbrev pub heardLeft : Header → (file : List ℕ) → (at : ℕ) → List letters.Heard
@@ -143,46 +97,3 @@ all-told h file kept told is short over going =
       standing = ap (heardFrom (told .standing)) (sym none) ∙ going .standing ∙ ap (heardFrom begun) whole;
       few = omega (arith, going .passed, going .within, going .room);
     }
-
--- ---- the call's answers
-
-pub turned-away : (file text : List ℕ) → goodFile file ≡ false → CertificateDone file text text File
-unfolding certifiedOf certificate.textAfter
-turned-away file text bad = record { says = simp bad; leaves = simp bad }
-
--- a good file has no more entries than can be printed
-pub countable : (file : List ℕ) → goodFile file ≡ true → length (numbersOf (heardIn file)) ≤ 8191
-countable file ok =
-    let entries = entriesIn (drop 7 file) in
-    let p = parts file ok in
-    omega (
-      arith,
-      length-map (heardIn file) numberFor,
-      length-map entries (heardOf (headerIn file)),
-      few-entries (headerIn file) (drop 7 file) (p .entries),
-      length-drop 7 file,
-      p .size,
-      p .long,
-    )
-
-pub certified : (h : Header) (file text text′ : List ℕ) (r : Printed) → goodFile file ≡ true → h ≡ headerIn file
-    → PrintDone (h .n) (numbersOf (heardIn file)) (standingOf file) text text′ r → CertificateDone file text text′ (certifiedAs r)
-unfolding certifiedOf certificate.textAfter certificateOf printedOf textAfter
-certified h file text text′ r ok is done =
-    let numbers = numbersOf (heardIn file) in
-    let few = le-leb (length numbers) 8191 (countable file ok) in
-    let done′ = subst (λ (x : Header). PrintDone (x .n) numbers (standingOf file) text text′ r) is done in
-    let cert = certificateText (headerIn file .n) numbers (standingOf file) in
-    let fits = leb (length cert) (length text) in
-    record {
-      says =
-          ap certifiedAs (done′ .says) ∙ ap (λ (t : Bool). certifiedAs (cond t (cond fits (printed.Bytes (length cert)) printed.Room) printed.Many)) few
-          ∙ either fits (length cert) ∙ sym (ap (λ (t : Bool). cond t (cond fits (Bytes (length cert)) Room) File) ok);
-      leaves =
-          done′ .leaves ∙ ap (λ (t : Bool). cond t (cond fits (atFront cert text) text) text) few
-          ∙ sym (ap (λ (t : Bool). cond t (cond fits (atFront cert text) text) text) ok);
-    }
-  where
-    either : (t : Bool) (n : ℕ) → certifiedAs (cond t (printed.Bytes n) printed.Room) ≡ cond t (Bytes n) Room
-    either true n = refl
-    either false n = refl

@@ -23,7 +23,7 @@ ghost use lib.ListN.{length, take, drop};
 ghost use Rattle.packing.specs.Words.{wordsOf};
 ghost use Rattle.jobs.specs.Check.{goodEntries, goodFile, headerIn};
 ghost use Rattle.printing.specs.Print.{PrintDone};
-ghost use Rattle.certificate.specs.Certificate.{heardAs, numberFor, numbersOf, heardIn, standingOf, CertificateDone, certifiedNumber};
+ghost use Rattle.certificate.specs.Certificate.{heardAs, numbersOf, heardIn, standingOf, CertificateDone, certifiedNumber};
 ghost use Rattle.certificate.specs.Telling.{heardNow, ToldOne, ToldAll, certifiedAs};
 
 // How many bytes the certificate has; or which row turned the call away.

@@ -2,7 +2,6 @@
 // input longer than a job file may be, and one that cannot be read to its end, are none.
 use certificate::Certified;
 use certificate::certify;
-use intake::Input;
 use intake::job_memory;
 use intake::put_out;
 use intake::take_in;
@@ -32,10 +31,6 @@ fn answer(file: &[u8]) {
 
 fn main() {
     let mut file = job_memory();
-    let input = take_in(&mut file);
-    let Input::Bytes(n) = input else {
-        say(b"R 14\n");
-        return;
-    };
+    let n = take_in(&mut file);
     answer(&file[..n]);
 }

@@ -1,2 +1,3 @@
 pub mod Pass
+pub mod Masks
 pub mod Agree

@@ -13,38 +13,24 @@ pub enum Decoded {
     Nothing,
 }
 
-// The words of the sixteen nibbles.
-const WORDS: [u16; 16] = [
-    0xD54,
-    0xD52,
-    0xD4C,
-    0xD4A,
-    0xD34,
-    0xD32,
-    0xD2C,
-    0xD2A,
-    0xCD4,
-    0xCD2,
-    0xCCC,
-    0xCCA,
-    0xCB4,
-    0xCB2,
-    0xCAC,
-    0xCAA,
-];
-
-// The word of a nibble, taken from the four lowest bits of n.
+// The word of a nibble, taken from the four lowest bits of n: each of them at a data bit of its own, and its complement in the next. Nibble 0
+// has D54h, and each bit that is set moves a one down by one place.
 pub fn word_of(n: u8) -> u16
     ensures { λ r. ⌜ r ≡ nibbleWord n ⌝ }
 {
-    WORDS[(n % 16) as usize]
+    let nibble = (n % 16) as u16;
+    let pairs = (nibble | nibble * 4) & 0x33;
+    let singles = (pairs | pairs * 2) & 0x55;
+    0xD54 - 2 * singles
 }
 
-// The four data bits that are not complements, of any word.
+// The four data bits that are not complements, of any word, brought together two by two.
 pub fn true_bits(w: u16) -> u8
     ensures { λ r. ⌜ r ≡ trueBits w ⌝ }
 {
-    (w / 2 % 2 + w / 8 % 2 * 2 + w / 32 % 2 * 4 + w / 128 % 2 * 8) as u8
+    let singles = (w / 2) & 0x55;
+    let pairs = (singles | singles / 2) & 0x33;
+    ((pairs | pairs / 4) & 0xF) as u8
 }
 
 // Whether a word is the word of a nibble: framed, with no parity bit (four of its data bits are set), and each bit followed by its complement.

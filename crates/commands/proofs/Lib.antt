@@ -1,3 +1,4 @@
 pub mod Writing
+pub mod Filled
 pub mod Issuing
 pub mod Agree

@@ -2,7 +2,7 @@
 -- away, nothing is written. It knows no other rows.
 use mathlib.Core.Path.{_≡_}
 use mathlib.Core.Bool.{cond}
-use mathlib.Core.List.{List, _∷_}
+use mathlib.Core.List.{List}
 use Prim.Native.Nat.{ℕ}
 use lib.Dec.{leb}
 use lib.ListN.{length}
@@ -11,7 +11,7 @@ use Rattle.lines.specs.Write.{atFront}
 use Rattle.writing.specs.declared.Put.{Put}
 use Rattle.writing.specs.declared.Put.the-variants as put
 use Rattle.questions.specs.Question.{goodQuestion}
-use Rattle.questions.specs.Bytes.{commandBytes, fillPairs}
+use Rattle.questions.specs.Bytes.{commandBytes}
 use Rattle.questions.specs.declared.question.Question.{Question}
 use Rattle.commands.specs.declared.Issued.{Issued}
 use Rattle.commands.specs.declared.Issued.the-variants as issued
@@ -47,7 +47,3 @@ issuedNumber issued.Room = 2
 abbrev pub issuedAs : Put → Issued
 issuedAs (put.Words n) = issued.Words n
 issuedAs put.NoRoom = issued.Room
-
--- five places, and 32 fill pairs: what a read's command is made from
-abbrev pub blank : List ℕ
-blank = 0 ∷ 0 ∷ 0 ∷ 0 ∷ 0 ∷ fillPairs 32

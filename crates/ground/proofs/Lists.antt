@@ -1,13 +1,15 @@
 -- Laws of lists that the library lacks.
 use mathlib.Core.Path.{_≡_, refl, sym, ap, ap₂, _∙_}
+use mathlib.Core.Logic.{⊎-elim}
 use mathlib.Core.List.{List, [], _∷_, _++_, append-assoc, append-nil}
-use Prim.Native.Nat.{ℕ, zero, suc, _+_, _-_, _≤_, _<_}
+use Prim.Native.Nat.{ℕ, zero, suc, _+_, _-_, _≤_, _<_, min}
 use native.Mathlib.Nat.{add-zero, add-suc, suc-add, zero-add, le-of-suc-le-suc, not-suc-le-zero}
 use native.Mathlib.Numerals.{add-one}
 use native.Mathlib.Omega.{arith}
 use lib.ListN.{length, getD, take, drop, set, length-drop, drop-of-length-le}
-use lib.Seq.{sets, sets-eq, take-suc, take-all, ext-getD}
+use lib.Seq.{sets, sets-eq, set-out, length-sets, take-suc, take-all, ext-getD}
 use Rattle.ground.specs.Sweep.{tabulated}
+use Rattle.ground.proofs.Test.{below-or-not}
 use Rattle.ground.proofs.Sweep.{length-tabulated, tabulated-at}
 
 -- two runs of stores, one behind the other
@@ -80,3 +82,22 @@ tabulated-own l =
 -- a part up to the end
 pub part-to-end : {A : Type 0} (l : List A) (at : ℕ) → take (length l - at) (drop at l) ≡ drop at l
 part-to-end l at = take-all (length l - at) (drop at l) (omega (arith, length-drop at l))
+
+-- places beyond the end: what is filled there is filled nowhere
+beyond : (f : ℕ → ℕ) (l : List ℕ) (d : ℕ) → sets l 0 (tabulated f (length l + d) 0) ≡ sets l 0 (tabulated f (length l) 0)
+beyond f l zero = ap (λ (n : ℕ). sets l 0 (tabulated f n 0)) (add-zero (length l))
+beyond f l (suc d) =
+    let k = length l + d in
+    let next : length l + suc d ≡ k + 1 = omega arith in
+    let full = sets l 0 (tabulated f k 0) in
+    ap (λ (n : ℕ). sets l 0 (tabulated f n 0)) next ∙ sym (filled-next f l k)
+    ∙ set-out full k (f k) (omega (arith, length-sets l 0 (tabulated f k 0))) ∙ beyond f l d
+
+-- as far as there is room
+pub filled-room : (f : ℕ → ℕ) (l : List ℕ) (n : ℕ) → sets l 0 (tabulated f (min n (length l)) 0) ≡ sets l 0 (tabulated f n 0)
+filled-room f l n =
+    ⊎-elim
+    (λ (few : n < length l). let all : min n (length l) ≡ n = omega arith in ap (λ (k : ℕ). sets l 0 (tabulated f k 0)) all)
+    (λ (many : length l ≤ n). let all : min n (length l) ≡ length l = omega arith in let more : length l + (n - length l) ≡ n = omega arith in
+    ap (λ (k : ℕ). sets l 0 (tabulated f k 0)) all ∙ sym (beyond f l (n - length l)) ∙ ap (λ (k : ℕ). sets l 0 (tabulated f k 0)) more)
+    (below-or-not n (length l))

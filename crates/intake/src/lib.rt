@@ -2,18 +2,11 @@
 // any contract: these say only that no more is counted than the lent memory holds.
 ghost use mathlib.Core.Path.{_≡_};
 ghost use Prim.Native.Nat.{_≤_};
-ghost use lib.ListN.{length};
-ghost use Rattle.intake.specs.Input.{Within};
-
-// So many bytes, at the front of the lent memory; or a read that failed.
-pub enum Input {
-    Bytes(usize),
-    Unreadable,
-}
+ghost use lib.ListN.{length, replicate};
 
 // One byte more than a job file may have, so that a longer input shows.
 pub fn job_memory() -> [u8; 65537]
-    ensures { λ r. ⌜ 65537 ≡ length r ⌝ }
+    ensures { λ r. ⌜ r ≡ replicate 65537 0 ⌝ }
 {
     [0; 65537]
 }
@@ -25,25 +18,26 @@ pub fn put_out(bytes: &[u8], complaint: &[u8]) {
     }
 }
 
-// Reads until the input ends or the memory is full. Each read that does not end it brings a byte at least, so as many reads as the memory has
+// Reads until the input ends or the memory is full, and says how many bytes stand at the front then: none, which is no job file, where a read
+// failed. Each read that does not end it brings a byte at least, so as many reads as the memory has
 // bytes are enough.
-pub fn take_in(memory: &mut [u8]) -> Input
-    ensures { λ r. ⌜ Within (length (now (memory .exit))) r ⌝ }
+pub fn take_in(memory: &mut [u8]) -> usize
+    ensures { λ r. ⌜ r ≤ length (now (memory .exit)) ⌝ }
 {
     let mut at = 0;
     let mut reads = 0;
     while reads < memory.len() {
         let got = read_at(memory, at);
         if got < 0 {
-            return Input::Unreadable;
+            return 0;
         }
         if got == 0 {
-            return Input::Bytes(at);
+            return at;
         }
         at += io::count(got, &memory[at..]);
         reads += 1;
     }
-    Input::Bytes(at)
+    at
 }
 
 // One read, behind what is there.

@@ -1,48 +1,21 @@
--- What callers may use of a file's entries: what holds of a good one, and how the entries go on behind it.
-use mathlib.Core.Path.{_≡_, refl, sym, ap, ap₂, _∙_}
+-- What callers may use of a file's entries: how they go on behind a good one, and what a good file is made of.
+use mathlib.Core.Path.{_≡_, refl, sym, ap, _∙_}
 use mathlib.Core.Bool.{Bool, true, false, cond, _&&_}
 use mathlib.Core.List.{List, [], _∷_}
-use Prim.Native.Nat.{ℕ, zero, suc, _+_, _*_, _<_, _≤_}
+use Prim.Native.Nat.{ℕ, _+_, _*_, _<_, _≤_}
 use native.Mathlib.Omega.{arith}
 use lib.Dec.{leb}
-use lib.ListN.{length, take, drop, length-take, length-drop}
-use borrow.Author.Tests.{leb-true, le-leb}
-use Rattle.ground.proofs.Test.{and-left, and-right, refuted}
-use Rattle.packing.proofs.Back.{length-words}
+use lib.ListN.{length, drop, length-drop}
+use borrow.Author.Tests.{leb-true}
+use Rattle.ground.proofs.Test.{and-left, and-right}
 use Rattle.jobs.specs.declared.Header.{Header}
-use Rattle.jobs.specs.Format.{Entry, asked}
-use Rattle.jobs.specs.Rules.{goodHeader, keepsRules, unusedAreZero}
+use Rattle.jobs.specs.Format.{Entry}
+use Rattle.jobs.specs.Rules.{goodHeader}
 use Rattle.jobs.specs.declared.Opened.the-variants as opened
-use Rattle.jobs.specs.declared.Next.the-variants as next
-use Rattle.jobs.specs.Check.{wordsIn, sizeIn, entryIn, askedIn, goodEntry, goodEntries, entriesIn, placedIn, nextIn, marked, headerIn, goodFile, openedOf}
+use Rattle.jobs.specs.Check.{wordsIn, sizeIn, entryIn, goodEntry, goodEntries, entriesIn, marked, headerIn, goodFile, openedOf}
 use Rattle.jobs.proofs.Walk.{no-bytes, one-entry, walk-here, walk-over}
-
--- an entry that is not cut short has as many words as it says
-pub words-number : (front : List ℕ) → sizeIn front ≤ length front → length (entryIn front .words) ≡ wordsIn front
-words-number front fits =
-    let part = take (2 * wordsIn front) (drop 8 front) in
-    omega (arith, length-words part, length-take (2 * wordsIn front) (drop 8 front), length-drop 8 front)
-
--- what holds of a good entry
-pub record Good (h : Header) (front : List ℕ) : Type 0 where
-  pub whole : sizeIn front ≤ length front
-  pub words : wordsIn front ≤ 140
-  pub kind : entryIn front .kind ≤ 4
-  pub unused : unusedAreZero (asked h (entryIn front)) ≡ true
-  pub rules : keepsRules h (entryIn front) ≡ true
-
-pub good : (h : Header) (front : List ℕ) → goodEntry h front ≡ true → Good h front
-unfolding goodEntry keepsRules
-good h front e =
-    let fits = leb-true (sizeIn front) (length front) (and-right (leb 8 (length front)) _ (and-left _ _ e)) in
-    let rules = and-right (leb 8 (length front) && leb (sizeIn front) (length front)) _ e in
-    record {
-      whole = fits;
-      words = omega (arith, words-number front fits, leb-true (length (entryIn front .words)) 140 (and-left _ _ (and-left _ _ rules)));
-      kind = leb-true (entryIn front .kind) 4 (and-right (leb (length (entryIn front .words)) 140) _ (and-left _ _ rules));
-      unused = and-right (leb (length (entryIn front .words)) 140 && leb (entryIn front .kind) 4) _ rules;
-      rules = rules;
-    }
+use Rattle.jobs.proofs.EachEntry.{each-entry}
+use Rattle.jobs.proofs.GoodEntry.{good}
 
 module _ (h : Header) (file : List ℕ) (at : ℕ) where
   -- a good entry, and the rest behind it
@@ -71,54 +44,6 @@ entries-here file at here = walk-here [] (λ (front : List ℕ) (later : List En
 
 pub no-more-entries : (file : List ℕ) (at : ℕ) → length file ≤ at → entriesIn (drop at file) ≡ []
 no-more-entries file at over = walk-over [] (λ (front : List ℕ) (later : List Entry). entryIn front ∷ later) file at over
-
--- ---- at the front of some bytes
-
-module _ (h : Header) (front : List ℕ) where
-  pub too-short : length front < 8 → goodEntry h front ≡ false
-  too-short short = refuted (goodEntry h front) (λ e. absurd (omega (arith, good h front e .whole)))
-
-  pub cut-short : length front < sizeIn front → goodEntry h front ≡ false
-  cut-short short = refuted (goodEntry h front) (λ e. absurd (omega (arith, good h front e .whole)))
-
-  pub too-many : 140 < wordsIn front → goodEntry h front ≡ false
-  too-many many = refuted (goodEntry h front) (λ e. absurd (omega (arith, good h front e .words)))
-
-  pub of-its-fields : sizeIn front ≤ length front → wordsIn front ≤ 140
-      → goodEntry h front ≡ (leb (entryIn front .kind) 4 && unusedAreZero (askedIn h front))
-  unfolding goodEntry keepsRules
-  of-its-fields whole words =
-      ap₂ (λ (t u : Bool). t && leb (sizeIn front) (length front) && (u && leb (entryIn front .kind) 4 && unusedAreZero (askedIn h front)))
-      (le-leb 8 (length front) (omega arith)) (le-leb (length (entryIn front .words)) 140 (omega (arith, words-number front whole)))
-      ∙ ap (λ (t : Bool). t && (leb (entryIn front .kind) 4 && unusedAreZero (askedIn h front))) (le-leb (sizeIn front) (length front) whole)
-
-  -- the answer at a place where bytes are left
-  pub next-is : (at : ℕ) → 0 < length front → nextIn h at front ≡ cond (goodEntry h front) (placedIn h at front) next.File
-  next-is at some = by-bytes front some
-    where
-      by-bytes : (l : List ℕ) → 0 < length l → nextIn h at l ≡ cond (goodEntry h l) (placedIn h at l) next.File
-      by-bytes [] some = absurd (omega arith)
-      by-bytes (b ∷ l) some = refl
-
--- ---- what holds of no bytes, and of an entry's with the rest behind it, holds of all good entries' bytes
-
-module _ (h : Header) (P : List ℕ → Type 0) (nothing : P [])
-    (step : (front : List ℕ) → 0 < length front → goodEntry h front ≡ true → P (drop (sizeIn front) front) → P front) where
-  one-step : (bytes : List ℕ) → goodEntries h bytes ≡ true
-      → ((rest : List ℕ) → length rest < length bytes → goodEntries h rest ≡ true → P rest) → P bytes
-  one-step [] ok shorter = nothing
-  one-step (b ∷ bytes) ok shorter =
-      let front = b ∷ bytes in
-      let both = sym (one-entry true (λ (f : List ℕ) (later : Bool). goodEntry h f && later) front (omega arith)) ∙ ok in
-      step front (omega arith) (and-left (goodEntry h front) _ both)
-      (shorter (drop (sizeIn front) front) (omega (arith, length-drop (sizeIn front) front)) (and-right (goodEntry h front) _ both))
-
-  below : (most : ℕ) (bytes : List ℕ) → length bytes < most → goodEntries h bytes ≡ true → P bytes
-  below zero bytes short ok = absurd (omega arith)
-  below (suc most) bytes short ok = one-step bytes ok (λ rest less. below most rest (omega arith))
-
-  pub each-entry : (bytes : List ℕ) → goodEntries h bytes ≡ true → P bytes
-  each-entry bytes ok = below (suc (length bytes)) bytes (omega arith) ok
 
 -- an entry has 8 bytes at least
 pub few-entries : (h : Header) (bytes : List ℕ) → goodEntries h bytes ≡ true → 8 * length (entriesIn bytes) ≤ length bytes

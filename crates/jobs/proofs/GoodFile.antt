@@ -17,7 +17,9 @@ use Rattle.jobs.specs.Rules.{goodHeader}
 use Rattle.jobs.specs.Check.{sizeIn, entryIn, goodEntry, goodEntries, entriesIn, walkFrom, pairAt, marked, headerIn, goodFile}
 use Rattle.jobs.specs.Encoded.{AllKeep, none, more, Encodes}
 use Rattle.jobs.proofs.Walk.{one-entry}
-use Rattle.jobs.proofs.Entries.{good, each-entry, parts}
+use Rattle.jobs.proofs.EachEntry.{each-entry}
+use Rattle.jobs.proofs.GoodEntry.{good}
+use Rattle.jobs.proofs.Entries.{parts}
 use Rattle.jobs.proofs.OneEntry.{entry-back, rest-back, entry-good, entry-fits, entry-again, drop-bytes}
 
 -- ---- an encoding is good, and what is read off it is what was written

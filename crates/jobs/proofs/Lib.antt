@@ -1,4 +1,6 @@
 pub mod Walk
+mod EachEntry
+mod GoodEntry
 pub mod Entries
 pub mod Placed
 mod OneEntry

@@ -18,7 +18,7 @@ use Rattle.jobs.specs.Format.{Entry, entryBytes}
 use Rattle.jobs.specs.Rules.{keepsRules}
 use Rattle.jobs.specs.Encoded.{Fits}
 use Rattle.jobs.specs.Check.{wordsIn, sizeIn, entryIn, goodEntry}
-use Rattle.jobs.proofs.Entries.{words-number}
+use Rattle.jobs.proofs.GoodEntry.{words-number}
 
 -- ---- an entry's bytes, and others behind them
 

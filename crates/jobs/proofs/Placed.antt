@@ -19,7 +19,8 @@ use Rattle.jobs.specs.declared.Next.the-variants as next
 use Rattle.jobs.specs.Check.{wordsIn, entryIn, askedIn, goodEntry, goodEntries, placedIn, nextOf, goodFile, openedOf}
 use Rattle.jobs.proofs.Opened as opened-file
 use Rattle.jobs.proofs.Next as next-entry
-use Rattle.jobs.proofs.Entries.{good, first-good, next-is, opened-good}
+use Rattle.jobs.proofs.GoodEntry.{good, next-is}
+use Rattle.jobs.proofs.Entries.{first-good, opened-good}
 
 module _ (h : Header) (file : List ℕ) (at : ℕ) (here : at < length file) (ok : goodEntries h (drop at file) ≡ true) where
   this-good : goodEntry h (drop at file) ≡ true

@@ -3,21 +3,21 @@ use mathlib.Core.Path.{_≡_, refl, sym, ap, _∙_}
 use mathlib.Core.Bool.{Bool, true, false, cond, _&&_}
 use mathlib.Core.Logic.{⊎-elim}
 use mathlib.Core.List.{List}
-use Prim.Native.Nat.{ℕ, _≤_, _<_}
+use Prim.Native.Nat.{ℕ, _-_, _*_, _≤_, _<_}
 use native.Mathlib.Nat.{eq-zero-or-pos}
 use native.Mathlib.Omega.{arith}
 use lib.Dec.{leb}
 use lib.ListN.{length}
 use borrow.Author.Tests.{eqb-true, eq-eqb, leb-true, le-leb}
 use Rattle.ground.proofs.Test.{below-or-not}
-use Rattle.lines.specs.Line.{byteAt}
+use Rattle.lines.specs.Line.{byteAt, byteCount}
 use Rattle.scanning.specs.declared.Place.{Place}
 use Rattle.scanning.specs.declared.Place.the-variants.{At, Nowhere}
 use Rattle.scanning.proofs.Whole.{Passes}
 use Rattle.questions.specs.Question.{goodQuestion}
 use Rattle.questions.specs.Shape.{shapeOf}
 use Rattle.questions.specs.declared.question.Question as asked
-use Rattle.questions.proofs.Good.{good-values}
+use Rattle.questions.proofs.Good.{good-values, read-shape}
 use Rattle.readings.specs.Reading.{refusalNumber, numberOf, valuesTaken}
 use Rattle.contents.specs.Rows.{echoed, pecRight, aliveRight, checkByte, settledCount, settled}
 use Rattle.contents.specs.InOrder.{unless, judgeBytes}
@@ -144,4 +144,11 @@ values-fit q line room =
     ⊎-elim (λ none. (omega arith, omega arith))
     (λ some. let c = some-values q line room some in
     (omega (arith, c .values, good-values q (c .taken .good)), omega (arith, c .values, c .taken .enough)))
+    (eq-zero-or-pos (valuesTaken (judgeOf q line room)))
+
+-- and the line has the bytes that carry them
+pub values-carried : (q : asked.Question) (line : List ℕ) (room : ℕ) → 2 * valuesTaken (judgeOf q line room) ≤ byteCount line - 2
+values-carried q line room =
+    ⊎-elim (λ none. omega arith)
+    (λ some. let c = some-values q line room some in omega (arith, c .values, c .taken .words, read-shape q (c .read) .words))
     (eq-zero-or-pos (valuesTaken (judgeOf q line room)))

@@ -1,6 +1,6 @@
 -- A clean line passes rows 4 to 6: preamble, nibbles and stop are characters all.
-use mathlib.Core.Path.{_≡_, refl, sym, ap, _∙_}
-use mathlib.Core.Bool.{true, false≢true}
+use mathlib.Core.Path.{_≡_, sym, ap, _∙_}
+use mathlib.Core.Bool.{true}
 use mathlib.Core.Logic.{⊎-elim}
 use mathlib.Core.List.{List}
 use Prim.Native.Nat.{ℕ, _+_, _-_, _<_, _≤_}
@@ -17,19 +17,14 @@ use Rattle.character_check.specs.Check.{isCharacter}
 use Rattle.character_check.proofs.Pass.{preamble-character, stop-character, nibble-character}
 use Rattle.scanning.specs.Place.{firstNoCharacter, firstNoNibble}
 use Rattle.scanning.specs.Frame.{framed}
-use Rattle.scanning.specs.declared.Place.{Place}
-use Rattle.scanning.specs.declared.Place.the-variants.{At, Nowhere}
-use Rattle.scanning.proofs.FirstPlace.{nowhere-passes, passes-nowhere}
+use Rattle.scanning.specs.declared.Place.the-variants.{Nowhere}
+use Rattle.scanning.proofs.FirstPlace.{nowhere-passes, passes-nowhere, nibbles-nowhere}
 use Rattle.questions.specs.declared.question.Question.{Question}
 use Rattle.contents.specs.InOrder.{judgeBytes}
 use Rattle.contents.proofs.Unless.{goes-on}
 use Rattle.judging.specs.Judge.{judgeWords}
-use Rattle.judging.specs.Clean.{isNowhere, isClean}
+use Rattle.judging.specs.Clean.{isClean}
 use Rattle.judging.proofs.UnlessAt.{no-place}
-
-is-nowhere : (p : Place) → isNowhere p ≡ true → p ≡ Nowhere
-is-nowhere (At i) e = absurd (false≢true e)
-is-nowhere Nowhere e = refl
 
 module _ (line : List ℕ) (clean : isClean line ≡ true) where
   frame : framed line ≡ true
@@ -38,7 +33,7 @@ module _ (line : List ℕ) (clean : isClean line ≡ true) where
 
   nibbles : firstNoNibble line ≡ Nowhere
   unfolding isClean
-  nibbles = is-nowhere (firstNoNibble line) (and-right (framed line) _ clean)
+  nibbles = nibbles-nowhere line (and-right (framed line) _ clean)
 
   first : getD line 0 0 ≡ preamble
   unfolding framed

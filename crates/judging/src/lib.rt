@@ -6,6 +6,7 @@ use questions::question::shape_of;
 use readings::Reading;
 use readings::Refusal;
 use scanning::Place;
+use scanning::all_nibbles;
 use scanning::first_no_character;
 use scanning::first_no_nibble;
 use scanning::is_framed;
@@ -29,11 +30,7 @@ fn is_clean(line: &[u16]) -> bool
     if !is_framed(line) {
         return false;
     }
-    let odd = first_no_nibble(line);
-    match odd {
-        Place::At(_) => false,
-        Place::Nowhere => true,
-    }
+    all_nibbles(line)
 }
 
 // Each row over the whole line before the next.

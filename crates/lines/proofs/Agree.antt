@@ -1,11 +1,16 @@
--- Nothing is left open: two answers that meet a function's contract, as its source states it, are the same.
+-- Nothing is left open: two calls that meet a function's contract, as its source states it, answer the same and leave the same in the lent memory.
 use mathlib.Core.Path.{sym, _∙_}
-use Rattle.ground.specs.Agree.{Settled}
+use denote.Ref.{now}
+use Rattle.ground.specs.Agree.{Settled, SettledIn}
 use Rattle.lines.proofs.read.byte_at.Reads as byte-at
 use Rattle.lines.proofs.read.pec_over.Reads as pec-over
+use Rattle.lines.proofs.read.read_bytes.Reads as read-bytes
 
 pub byte-at-settled : Settled byte-at.Post
 byte-at-settled l given r r′ left left′ p q = p ∙ sym q
 
 pub pec-over-settled : Settled pec-over.Post
 pec-over-settled l given r r′ left left′ p q = p ∙ sym q
+
+pub read-bytes-settled-out : SettledIn (λ l left. now (left .1 .1 .0)) read-bytes.Post
+read-bytes-settled-out l given r r′ left left′ p q = p ∙ sym q

@@ -1,3 +1,4 @@
+mod TwoNibbles
 pub mod Line
 pub mod LineDistance
 pub mod Agree

@@ -2,19 +2,20 @@
 use mathlib.Core.Path.{_≡_, refl, ap, ap₂, _∙_, subst}
 use mathlib.Core.Logic.{⊎-elim}
 use mathlib.Core.List.{List, [], _∷_, _++_}
-use Prim.Native.Nat.{ℕ, zero, suc, min, _+_, _*_, _/_, _%_, _≤_, _<_}
+use Prim.Native.Nat.{ℕ, zero, suc, min, _+_, _-_, _*_, _/_, _%_, _≤_, _<_}
 use native.Mathlib.Nat.{not-suc-le-zero, zero-add}
 use native.Mathlib.Numerals.{one-add}
 use native.Mathlib.Omega.{arith}
-use lib.ListN.{length, getD, take, length-take, length-append, List·getD-append, List·getD-eq-default}
-use lib.Seq.{ext-getD, getD-at, getD-take}
+use lib.ListN.{length, getD, take, drop, length-take, length-drop, length-append, List·getD-append, List·getD-eq-default}
+use lib.Seq.{ext-getD, getD-at, getD-take, getD-drop, drop-drop, sets}
 use Rattle.ground.proofs.Test.{below-or-not}
-use Rattle.ground.proofs.Sweep.{tabulated-at, length-tabulated}
+use Rattle.ground.proofs.Sweep.{tabulated-at, length-tabulated, tabulated-same}
+use Rattle.ground.proofs.Lists.{tabulated-front, filled-whole}
 use Rattle.remainder.specs.Turned.{Bytes}
 use Rattle.characters.specs.Character.{stop}
 use Rattle.characters.specs.Nibble.{nibbleWord, trueBits}
 use Rattle.characters.proofs.Nibble.{true-bits-of, true-bits-lt, nibble-word-lt}
-use Rattle.lines.specs.Line.{charactersOf, lineOf, byteAt, byteCount, bytesOf}
+use Rattle.lines.specs.Line.{charactersOf, lineOf, byteAt, byteCount, bytesOf, bytesFrom}
 
 pub length-characters : (bytes : List ℕ) → length (charactersOf bytes) ≡ 2 * length bytes
 unfolding charactersOf
@@ -105,6 +106,25 @@ length-part line to = length-take to (bytesOf line) ∙ ap (min to) (length-byte
 
 pub part-at : (line : List ℕ) (to i : ℕ) → i < min to (byteCount line) → getD (take to (bytesOf line)) i 0 ≡ byteAt line i
 part-at line to i h = getD-take to (bytesOf line) i 0 (omega arith) ∙ bytes-at line i (omega arith)
+
+-- some of them, and the rest
+pub part-next : (line : List ℕ) (to i m : ℕ) → i + m ≤ min to (byteCount line)
+    → drop i (take to (bytesOf line)) ≡ bytesFrom line i m ++ drop (i + m) (take to (bytesOf line))
+part-next line to i m h =
+    let part = take to (bytesOf line) in
+    let enough : m ≤ length (drop i part) = omega (arith, length-drop i part, length-part line to) in
+    tabulated-front m (drop i part) enough
+    ∙ ap₂ _++_
+    (tabulated-same (λ (k : ℕ). getD (drop i part) k 0) (λ (k : ℕ). byteAt line (i + k)) m 0
+    (λ k inside. getD-drop i part k 0 ∙ part-at line to (i + k) (omega arith)))
+    (drop-drop m i part)
+
+-- where the line has as many bytes as are lent, all of them are read
+pub all-read : (line out : List ℕ) (from count : ℕ) → length out ≡ count → count ≤ byteCount line - from
+    → sets out 0 (bytesFrom line from (min (length out) (byteCount line - from))) ≡ bytesFrom line from count
+all-read line out from count e h =
+    let all : min (length out) (byteCount line - from) ≡ length out = omega arith in
+    ap (λ (n : ℕ). sets out 0 (bytesFrom line from n)) all ∙ filled-whole (λ (k : ℕ). byteAt line (from + k)) out ∙ ap (bytesFrom line from) e
 
 -- the places of a line of n bytes: the first, two for each byte, the last
 pub by-place : (P : ℕ → Type 0) (n : ℕ) → P 0 → ((i : ℕ) → i < n → P (1 + 2 * i)) → ((i : ℕ) → i < n → P (2 + 2 * i)) → P (1 + 2 * n)

@@ -27,6 +27,10 @@ byteCount line = (length line - 2) / 2
 unfoldable pub bytesOf : List ℕ → List ℕ
 bytesOf line = tabulated (byteAt line) (byteCount line) 0
 
+-- some bytes of a line, from a place on
+abbrev pub bytesFrom : List ℕ → (from count : ℕ) → List ℕ
+bytesFrom line from count = tabulated (λ k. byteAt line (from + k)) count 0
+
 -- the PEC of a line's bytes from one place up to another
 unfoldable pub pecOver : List ℕ → (from to : ℕ) → ℕ
 pecOver line from to = pecOf (drop from (take to (bytesOf line)))

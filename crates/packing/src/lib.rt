@@ -9,10 +9,10 @@ ghost use Rattle.packing.specs.Words.{wordAt, wordsOf, bytesOf, withWord
 pub fn unpack(bytes: &[u8], out: &mut [u16])
     ensures { λ _. ⌜ now (out .exit) ≡ sets (now (out .entry)) 0 (wordsOf (now (bytes .entry))) ⌝ }
 {
-    let words = bytes.len() / 2;
+    let words = least(bytes.len() / 2, out.len());
     let mut k = 0;
     while k < words {
-        put_word(out, k, word_at(bytes, k));
+        out[k] = word_at(bytes, k);
         k += 1;
     }
 }
@@ -44,14 +44,6 @@ pub fn join(low: u8, high: u8) -> u16
     ensures { λ r. ⌜ r ≡ low + 256 * high ⌝ }
 {
     low as u16 + 256 * high as u16
-}
-
-fn put_word(out: &mut [u16], k: usize, word: u16)
-    ensures { λ _. ⌜ now (out .exit) ≡ set (now (out .entry)) k word ⌝ }
-{
-    if k < out.len() {
-        out[k] = word;
-    }
 }
 
 // The bytes of some words at the front of the lent bytes, as many words as there is room for; the rest stays, an odd last byte too.

@@ -30,7 +30,7 @@ bit-is-shift crc =
     digit (λ (low : ℕ). cond (eqb low 1) (bitXor (crc / 2) poly) (crc / 2) ≡ bitXor (crc / 2) (low * poly))
     (sym (xor-zero-r (crc / 2))) refl (crc % 2) (mod-lt crc (zero-lt-suc 1))
 
-bit-linear : Linear bitStep
+pub bit-linear : Linear bitStep
 bit-linear a b =
     bit-is-shift (bitXor a b) ∙ lowest-first-linear poly a b ∙ sym (ap₂ bitXor (bit-is-shift a) (bit-is-shift b))
 

@@ -1,3 +1,4 @@
 pub mod Byte
+mod Fours
 pub mod Distance
 pub mod Agree

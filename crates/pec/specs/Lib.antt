@@ -1,2 +1,3 @@
 pub mod Pec
+pub mod Moved
 pub mod Distance

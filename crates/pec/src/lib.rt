@@ -1,27 +1,30 @@
 // The packet error check, PEC, of document 01 and data sheet 004: one byte, and a list of bytes.
+mod moved;
 mod table;
 
+use moved::MOVED;
 use table::TABLE;
 ghost use mathlib.Core.Path.{_≡_};
 ghost use lib.Bits.{bitXor};
-ghost use lib.ListN.{getD};
+ghost use lib.ListN.{drop};
+ghost use Rattle.remainder.specs.Register.{run};
 ghost use Rattle.pec.specs.Pec.{byteStep, remainderTable, pecOf};
+ghost use Rattle.pec.specs.Moved.{moved, movedTable};
 
-// The remainders of the 256 bytes. A loop asks for them once: each use of the table lays it out anew.
-pub fn remainders() -> [u8; 256]
+// The remainders of the 256 bytes. A loop asks for them once: each use of a table lays it out anew.
+fn remainders() -> [u8; 256]
     ensures { λ r. ⌜ r ≡ remainderTable ⌝ }
 {
     TABLE
 }
 
-// The PEC so far, with one more byte taken in, by a table of remainders.
-pub fn step_by(table: &[u8; 256], crc: u8, byte: u8) -> u8
-    ensures { λ r. ⌜ r ≡ getD (now (table .entry)) (bitXor crc byte) 0 ⌝ }
+fn moved_states() -> [u8; 256]
+    ensures { λ r. ⌜ r ≡ movedTable ⌝ }
 {
-    table[(crc ^ byte) as usize]
+    MOVED
 }
 
-// The same by the table above, for a single byte.
+// The PEC so far, with one more byte taken in.
 pub fn step(crc: u8, byte: u8) -> u8
     ensures { λ r. ⌜ r ≡ byteStep crc byte ⌝ }
 {
@@ -33,18 +36,59 @@ fn take_in(table: &[u8; 256], crc: u8, byte: u8) -> u8
     requires { ⌜ now table ≡ remainderTable ⌝ }
     ensures { λ r. ⌜ r ≡ byteStep crc byte ⌝ }
 {
-    step_by(table, crc, byte)
+    table[(crc ^ byte) as usize]
+}
+
+// A byte brought together with the one four places before it.
+fn bring_on(table: &[u8; 256], before: u8, byte: u8) -> u8
+    requires { ⌜ now table ≡ movedTable ⌝ }
+    ensures { λ r. ⌜ r ≡ bitXor (moved before) byte ⌝ }
+{
+    table[before as usize] ^ byte
 }
 
 // The PEC of some bytes.
 pub fn pec(bytes: &[u8]) -> u8
     ensures { λ r. ⌜ r ≡ pecOf (now (bytes .entry)) ⌝ }
 {
-    let table = remainders();
-    let mut crc: u8 = 0;
-    let mut i = 0;
+    pec_from(0, bytes)
+}
+
+// The PEC so far, with some more bytes taken in. Four bytes at a time are brought on to the next four, which no byte has to wait for; the last
+// four and what is left behind them are taken in one by one.
+pub fn pec_from(crc: u8, bytes: &[u8]) -> u8
+    ensures { λ r. ⌜ r ≡ run byteStep crc (now (bytes .entry)) ⌝ }
+{
+    let remainders = remainders();
+    if bytes.len() < 4 {
+        return take_in_from(&remainders, crc, bytes, 0);
+    }
+    let moved = moved_states();
+    let mut a = crc ^ bytes[0];
+    let mut b = bytes[1];
+    let mut c = bytes[2];
+    let mut d = bytes[3];
+    let mut i = 4;
+    while 4 <= bytes.len() - i {
+        a = bring_on(&moved, a, bytes[i]);
+        b = bring_on(&moved, b, bytes[i + 1]);
+        c = bring_on(&moved, c, bytes[i + 2]);
+        d = bring_on(&moved, d, bytes[i + 3]);
+        i += 4;
+    }
+    let folded = take_in_from(&remainders, 0, &[a, b, c, d], 0);
+    take_in_from(&remainders, folded, bytes, i)
+}
+
+// The bytes from a place on taken in one by one.
+fn take_in_from(table: &[u8; 256], crc: u8, bytes: &[u8], from: usize) -> u8
+    requires { ⌜ now table ≡ remainderTable ⌝ }
+    ensures { λ r. ⌜ r ≡ run byteStep crc (drop from (now (bytes .entry))) ⌝ }
+{
+    let mut crc = crc;
+    let mut i = from;
     while i < bytes.len() {
-        crc = take_in(&table, crc, bytes[i]);
+        crc = take_in(table, crc, bytes[i]);
         i += 1;
     }
     crc

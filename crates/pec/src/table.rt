@@ -1,4 +1,4 @@
-// What eight bits make of each of the 256 bytes. Only `step` reads it, and no contract speaks of it.
+// What eight bits make of each of the 256 bytes.
 pub const TABLE: [u8; 256] = [
     0x00,
     0x3E,

@@ -4,10 +4,9 @@
 use letters::Standing;
 use questions::question::Question;
 use questions::question::is_covered;
-ghost use mathlib.Core.Path.{_≡_};
 ghost use mathlib.Core.List.{_∷_, []};
-ghost use Prim.Native.Nat.{_+_, _*_, _≤_};
-ghost use lib.ListN.{length, getD};
+ghost use Prim.Native.Nat.{_+_, _≤_};
+ghost use lib.ListN.{length};
 ghost use Rattle.printing.specs.Text.{decimal, figure, headLine, entryLine, entryLines, deviceLine, deviceLineIf, deviceLines, certificateText};
 ghost use Rattle.printing.specs.Print.{Laid, mostEntries, PrintDone};
 

@@ -1,7 +1,6 @@
 -- How far the right answers to one READALL question are apart on the line: twice as many bits as their values, with the check byte, and
 -- the two PECs differ in. The first two bytes and the alive byte are the same in all of them.
 use mathlib.Core.Path.{_≡_, sym, ap, ap₂, _∙_}
-use mathlib.Core.Bool.{true}
 use mathlib.Core.List.{List, [], _∷_, _++_}
 use Prim.Native.Nat.{ℕ, _+_, _*_, _≤_}
 use native.Mathlib.Omega.{arith}
@@ -15,17 +14,16 @@ use Rattle.pec.specs.Pec.{byteStep, pecOf}
 use Rattle.pec.specs.Distance.{apartBy}
 use Rattle.pec.proofs.Distance.{distance-two, distance-three}
 use Rattle.lines.specs.Line.{lineOf}
-use Rattle.lines.proofs.Line.{length-line}
 use Rattle.lines.proofs.LineDistance.{line-distance}
-use Rattle.questions.specs.Question.{readAll, goodQuestion}
 use Rattle.questions.specs.Shape.{shapeOf}
 use Rattle.questions.specs.Bytes.{onWire, aliveByte, sealed, readCovered, answerBytes}
 use Rattle.questions.specs.declared.question.Question.{Question}
 use Rattle.questions.proofs.ByKind.{of-read}
 use Rattle.questions.proofs.Good.{good-alive, good-first}
-use Rattle.acceptance.specs.Answer.{Registers, AllValues, Sendable}
+use Rattle.acceptance.specs.Answer.{Registers, AllValues}
 use Rattle.acceptance.proofs.Wire.{bytes-append, bytes-cons, no-bytes, length-wire, wire-bytes}
 use Rattle.acceptance.proofs.Sealed.{length-sealed, sealed-bytes}
+use Rattle.promises.specs.Demand3.{AsksAll, answerLine}
 
 -- the bytes that can differ between two answers to one question: the values and the check byte
 abbrev pub varied : List ℕ → List ℕ
@@ -37,19 +35,20 @@ length-varied values = omega (arith, length-append (onWire values) (0 ∷ []), l
 pub varied-bytes : (values : List ℕ) → Registers values → Bytes (varied values)
 varied-bytes values r = bytes-append (onWire values) (0 ∷ []) (wire-bytes values r) (bytes-cons 0 [] (omega arith) no-bytes)
 
-module _ (q : Question) (is : q .kind ≡ readAll) (good : goodQuestion q ≡ true) (s : Sendable q) where
+module _ (q : Question) (asks : AsksAll q) where
   -- the start state that the first two bytes leave, the same for every answer
   unfoldable pub start : ℕ
   start = byteStep (byteStep 0 (shapeOf q .first)) (q .reg)
 
   pub answer : (values : List ℕ) → answerBytes q values 0 ≡ sealed q (shapeOf q .acting) (readCovered q values 0)
   unfolding answerBytes
-  answer values = of-read (q .kind) _ _ _ (omega arith)
+  answer values = of-read (q .kind) _ _ _ (omega (arith, asks .kind))
 
   pub answer-are-bytes : (values : List ℕ) → Registers values → Bytes (sealed q (shapeOf q .acting) (readCovered q values 0))
   answer-are-bytes values r =
-      sealed-bytes q (shapeOf q .acting) (good-alive q good) (readCovered q values 0)
-      (bytes-cons (shapeOf q .first) (q .reg ∷ varied values) (good-first q good) (bytes-cons (q .reg) (varied values) (s .reg) (varied-bytes values r)))
+      sealed-bytes q (shapeOf q .acting) (good-alive q (asks .good)) (readCovered q values 0)
+      (bytes-cons (shapeOf q .first) (q .reg ∷ varied values) (good-first q (asks .good))
+      (bytes-cons (q .reg) (varied values) (asks .sends .reg) (varied-bytes values r)))
 
   -- two answers are as far apart as their varied bytes and the two remainders
   apart : (v w : List ℕ) → length v ≡ length w
@@ -77,21 +76,15 @@ module _ (q : Question) (is : q .kind ≡ readAll) (good : goodQuestion q ≡ tr
     sealed-long =
         omega (
           arith,
-          length-sealed q (shapeOf q .acting) (good-alive q good) (readCovered q values 0),
-          length-sealed q (shapeOf q .acting) (good-alive q good) (readCovered q other 0),
+          length-sealed q (shapeOf q .acting) (good-alive q (asks .good)) (readCovered q values 0),
+          length-sealed q (shapeOf q .acting) (good-alive q (asks .good)) (readCovered q other 0),
           length-varied values,
           length-varied other,
           same-number,
         )
 
-    pub answers-long : length (lineOf (answerBytes q values 0)) ≡ length (lineOf (answerBytes q other 0))
-    answers-long =
-        length-line (answerBytes q values 0)
-        ∙ ap (λ (k : ℕ). 2 * k + 2) (ap length (answer values) ∙ sealed-long ∙ sym (ap length (answer other)))
-        ∙ sym (length-line (answerBytes q other 0))
-
     -- the two lines differ in twice as many bits as the answers
-    pub lines-apart : distance (lineOf (answerBytes q values 0)) (lineOf (answerBytes q other 0)) ≡ 2 * apartBy start (varied values) (varied other)
+    pub lines-apart : distance (answerLine q values) (answerLine q other) ≡ 2 * apartBy start (varied values) (varied other)
     lines-apart =
         ap₂ (λ (x y : List ℕ). distance (lineOf x) (lineOf y)) (answer values) (answer other)
         ∙ line-distance _ _ sealed-long (answer-are-bytes values (fits .registers)) (answer-are-bytes other (fits′ .registers))
@@ -104,11 +97,11 @@ module _ (q : Question) (is : q .kind ≡ readAll) (good : goodQuestion q ≡ tr
         ap (λ (l : List ℕ). apartBy start (varied values) l) (sym e)
         ∙ ap₂ _+_ (distance-self (varied values)) (ap ones (xor-self (run byteStep start (varied values))) ∙ no-ones)
 
-    module _ (masks : List ℕ) (every : length masks ≡ length (lineOf (answerBytes q values 0))) (some : 1 ≤ weight masks)
-        (is-turned : turned (lineOf (answerBytes q values 0)) masks ≡ lineOf (answerBytes q other 0)) where
+    module _ (masks : List ℕ) (every : length masks ≡ length (answerLine q values)) (some : 1 ≤ weight masks)
+        (is-turned : turned (answerLine q values) masks ≡ answerLine q other) where
       twice : weight masks ≡ 2 * apartBy start (varied values) (varied other)
       twice =
-          sym (distance-turned (lineOf (answerBytes q values 0)) masks every) ∙ ap (distance (lineOf (answerBytes q values 0))) is-turned ∙ lines-apart
+          sym (distance-turned (answerLine q values) masks every) ∙ ap (distance (answerLine q values)) is-turned ∙ lines-apart
 
       differ : varied values ≡ varied other → ⊥
       differ e = omega (arith, twice, together e)

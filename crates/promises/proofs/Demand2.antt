@@ -1,46 +1,75 @@
--- Demand 2, of the reader. An answer is accepted exactly where the question is good, there is room, and the line is the line of a right answer
--- for some values (of a write, the one answer; of HELLOALL, some count 1..32); and what is handed out is those values. For every question,
--- every line and every output, of every answer that meets `read`'s contract, and so of `read`.
+-- Demand 2 is met. The command writer's answer tells whether its question was good and had room. What the reader accepts is a right answer's
+-- line, and every right answer's line is accepted: the laws of `acceptance`, said of the call with its output. A letter is the deserved one by
+-- the law of `letters`, on the entries of a file.
 use mathlib.Core.Path.{_≡_, sym, ap, _∙_}
+use mathlib.Core.Bool.{Bool, true, false, cond, _&&_}
 use mathlib.Core.List.{List}
-use mathlib.Core.Bool.{true}
-use Prim.Native.Nat.{ℕ, _≤_}
+use Prim.Native.Nat.{ℕ, _<_}
 use native.Mathlib.Nat.{le-refl}
 use native.Mathlib.Omega.{arith}
+use lib.Dec.{leb}
 use lib.ListN.{length}
+use Rattle.lines.specs.Line.{byteAt}
 use Rattle.lines.specs.Write.{atFront}
-use Rattle.questions.specs.Question.{goodQuestion}
+use Rattle.questions.specs.Question.{helloAll}
 use Rattle.questions.specs.Shape.{shapeOf}
-use Rattle.commands.specs.Command.{commandLine}
-use Rattle.questions.specs.declared.question.Question.{Question}
+use Rattle.questions.specs.declared.question.Question as asked
+use Rattle.commands.specs.Command.{CommandPut, issuedNumber}
+use Rattle.commands.specs.declared.Issued.{Issued}
+use Rattle.commands.specs.declared.Issued.the-variants.{Words, Question, Room}
+use Rattle.commands.proofs.Issuing.{issued-good, issued-words, command-written}
 use Rattle.readings.specs.Reading.{numberOf}
 use Rattle.reader.specs.Read.{ReadDone}
+use Rattle.readings.specs.declared.Refusal.the-variants.{Count}
 use Rattle.readings.specs.declared.Reading.{Reading}
-use Rattle.judging.proofs.Accepted.{accepted-takes}
-use Rattle.acceptance.specs.Answer.{AnswerTo, Sendable}
+use Rattle.readings.specs.declared.Reading.the-variants.{Counted, Refused}
+use Rattle.contents.specs.Rows.{settledCount}
+use Rattle.contents.proofs.RowLaws.{hello-settled}
+use Rattle.judging.proofs.Accepted.{taken-settles, accepted-takes}
+use Rattle.acceptance.specs.Answer.{Sendable}
 use Rattle.acceptance.proofs.Lengths.{command-words, words-most}
 use Rattle.acceptance.proofs.AcceptedIsAnAnswer.{accepted-is-an-answer}
 use Rattle.acceptance.proofs.AnswerIsAccepted.{answer-is-accepted, accepted-reading}
-use Rattle.promises.specs.Acceptance.{Accepted, Due, With}
+use Rattle.letters.specs.Letters.{Heard}
+use Rattle.letters.specs.Meaning.{Deserves, holds, differs, unread}
+use Rattle.letters.proofs.Meaning.{given-is-deserved, deserved-is-given, no-write-no-letter}
+use Rattle.certificate.specs.Certificate.{heardIn}
+use Rattle.promises.specs.Demand2.{CommandDue, CommandOut, Accepted, Due, With, Demand2}
+use Rattle.promises.proofs.OwnLetter.{own-letter}
 
-module _ (q : Question) (line before after : List ℕ) (r : Reading) (done : ReadDone q line before after r) where
-  -- What is accepted was due, and is handed out with the values of that answer.
-  pub only-then : Accepted r → (values : List ℕ) × Due q line before values × With q values before after r
+-- ---- commands
+
+written : (q : asked.Question) (before after : List ℕ) (r : Issued) → CommandPut q before after r → CommandDue q before → CommandOut q before after r
+written q before after r done due = record {
+  words = done .says ∙ issued-good q before (due .good) (omega arith);
+  line = command-written q before after r done (due .good) (omega arith);
+}
+
+was-due : (q : asked.Question) (before after : List ℕ) (r : Issued) → CommandPut q before after r → issuedNumber r ≡ 0 → CommandDue q before
+was-due q before after (Words n) done none =
+    let i = issued-words q before n (sym (done .says)) in
+    record { good = i .good; room = omega (arith, i .room) }
+was-due q before after Question done none = absurd (omega arith)
+was-due q before after Room done none = absurd (omega arith)
+
+-- ---- answers
+
+module _ (q : asked.Question) (line before after : List ℕ) (r : Reading) (done : ReadDone q line before after r) where
+  only-then : Accepted r → (values : List ℕ) × Due q line before values × With q values before after r
   only-then accepted =
       let taken = accepted-takes q line (length before) (ap numberOf (sym (done .says)) ∙ accepted) in
       let a = accepted-is-an-answer q line (length before) (ap numberOf (sym (done .says)) ∙ accepted) in (
         a .values,
-        record { good = taken .good; room = taken .enough; answer = a .answer },
+        record { good = taken .good; room = omega (arith, taken .enough); answer = a .answer },
         record {
           reading = done .says ∙ a .reading;
           output = done .leaves ∙ ap (λ (l : List ℕ). atFront l before) (a .handed);
         },
       )
 
-  -- Where it is due, for any values, it is accepted with those values.
-  pub always-then : Sendable q → (values : List ℕ) → Due q line before values → Accepted r × With q values before after r
+  always-then : Sendable q → (values : List ℕ) → Due q line before values → Accepted r × With q values before after r
   always-then s values due =
-      let a = answer-is-accepted q (due .good) s (length before) (due .room) values line (due .answer) in (
+      let a = answer-is-accepted q (due .good) s (length before) (omega arith) values line (due .answer) in (
         ap numberOf (done .says ∙ a .0) ∙ accepted-reading q values (due .answer .fitting),
         record {
           reading = done .says ∙ a .0;
@@ -48,11 +77,39 @@ module _ (q : Question) (line before after : List ℕ) (r : Reading) (done : Rea
         },
       )
 
--- Command and answer have equal length, and never more than 140 words.
-pub equal-length : (q : Question) → goodQuestion q ≡ true → Sendable q → (values line : List ℕ) → AnswerTo q values line
-    → (length line ≡ length (commandLine q)) × (length line ≤ 140)
-equal-length q good s values line answer =
-    let room = shapeOf q .values in
-    let a = answer-is-accepted q good s room (le-refl room) values line answer in
-    let taken = accepted-takes q line room (ap numberOf (a .0) ∙ accepted-reading q values (answer .fitting)) in
-    (taken .words ∙ sym (command-words q good), omega (arith, taken .words, words-most q good))
+  hello-count : q .kind ≡ helloAll → Accepted r → r ≡ Counted (byteAt line 2)
+  unfolding settledCount
+  hello-count hello accepted =
+      let taken = accepted-takes q line (length before) (ap numberOf (sym (done .says)) ∙ accepted) in
+      let settles = done .says ∙ taken-settles q line (length before) taken ∙ sym (hello-settled q line hello) in
+      by-count (leb 1 (byteAt line 2) && leb (byteAt line 2) 32) settles
+    where
+      by-count : (t : Bool) → r ≡ cond t (Counted (byteAt line 2)) (Refused (Count (byteAt line 2))) → r ≡ Counted (byteAt line 2)
+      by-count true e = e
+      by-count false e = absurd (omega (arith, accepted, ap numberOf e))
+
+-- ---- letters
+
+-- a device that deserves a letter is covered by a good write, and so is below 32
+deserving-below : {es : List Heard} {a letter : ℕ} → Deserves es a letter → a < 32
+deserving-below {a = a} (holds w covered r same) = own-letter .covered-below (w .entry .question) (w .passes) a covered
+deserving-below {a = a} (differs w covered r other) = own-letter .covered-below (w .entry .question) (w .passes) a covered
+deserving-below {a = a} (unread w covered silent) = own-letter .covered-below (w .entry .question) (w .passes) a covered
+
+pub demand-2 : Demand2
+demand-2 = record {
+  command-only-then = λ q before after r done none. let due = was-due q before after r done none in (due, written q before after r done due);
+  command-always-then = written;
+  only-then = only-then;
+  always-then = always-then;
+  hello-count = hello-count;
+  by-rows = λ q line before after r done. done .says;
+  equal-length = λ q good s values line answer.
+      let room = shapeOf q .values in
+      let a = answer-is-accepted q good s room (le-refl room) values line answer in
+      let taken = accepted-takes q line room (ap numberOf (a .0) ∙ accepted-reading q values (answer .fitting)) in
+      (taken .words ∙ sym (command-words q good), omega (arith, taken .words, words-most q good));
+  given-only-then = λ file a letter given. given-is-deserved (heardIn file) a letter (own-letter .lettered-below file a (given .covered)) given;
+  given-always-then = λ file a letter deserved. deserved-is-given (heardIn file) a letter (deserving-below deserved) deserved;
+  no-write = λ file. no-write-no-letter (heardIn file);
+}

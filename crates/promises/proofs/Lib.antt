@@ -1,7 +1,13 @@
 pub mod RefusedWritesNothing
-pub mod Apart
+pub mod RefusedBytes
+pub mod Demand1
+pub mod OwnLetter
 pub mod Demand2
+pub mod Apart
 pub mod Demand3
+pub mod Masks
+pub mod Undetected
 pub mod WhereItEnds
+pub mod EachStep
 pub mod RoundTrip
-pub mod Letters
+pub mod StarredNumbers

@@ -2,7 +2,7 @@
 use mathlib.Core.Path.{_≡_}
 use mathlib.Core.List.{List}
 use Prim.Native.Nat.{ℕ, _+_, _-_, _*_}
-use lib.ListN.{length}
+use lib.ListN.{length, getD}
 use Rattle.ground.specs.Sweep.{tabulated}
 use Rattle.lines.specs.Line.{byteAt}
 use Rattle.lines.specs.Write.{atFront}
@@ -18,6 +18,13 @@ valueAt line m k = byteAt line (2 + 2 * (m - 1 - k)) + 256 * byteAt line (2 + 2 
 -- the m values in address order, lowest first
 abbrev pub valuesOn : List ℕ → (m : ℕ) → List ℕ
 valuesOn line m = tabulated (valueAt line m) m 0
+
+-- the same of the bytes that carry the values
+abbrev pub valueIn : List ℕ → (m k : ℕ) → ℕ
+valueIn bytes m k = getD bytes (2 * (m - 1 - k)) 0 + 256 * getD bytes (2 * (m - 1 - k) + 1) 0
+
+abbrev pub valuesIn : List ℕ → (m : ℕ) → List ℕ
+valuesIn bytes m = tabulated (valueIn bytes m) m 0
 
 -- what `read` says and leaves: the values at the front of the output and the rest as it was; turned away, or a kind without values, all as it was
 pub record ReadDone (q : Question) (line before after : List ℕ) (r : Reading) : Type 0 where

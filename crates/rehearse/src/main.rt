@@ -1,7 +1,6 @@
-// The rehearsal program: a job file on standard input, and on standard output the same job with the answers that a chain just switched on
-// gives, so that `rehearse < plan.bmc | certify` shows a certificate with no module on the hook. What is no job file, or would be too long
+// The rehearsal program: a job file on standard input, and on standard output the same job with the answers that the twin's chain, switched on
+// first, gives, so that `rehearse < plan.bmc | certify` shows a certificate with no module on the hook. What is no job file, or would be too long
 // with its answers, is turned away with `R 14`, which the certificate program turns away in its turn.
-use intake::Input;
 use intake::job_memory;
 use intake::put_out;
 use intake::take_in;
@@ -24,10 +23,6 @@ fn answer(file: &[u8]) {
 
 fn main() {
     let mut file = job_memory();
-    let input = take_in(&mut file);
-    let Input::Bytes(n) = input else {
-        say(b"R 14\n");
-        return;
-    };
+    let n = take_in(&mut file);
     answer(&file[..n]);
 }

@@ -2,20 +2,18 @@
 -- any other line passes unchanged, and no register of any device changes.
 use mathlib.Core.Path.{_≡_, refl, sym, ap, _∙_, subst}
 use mathlib.Core.Bool.{Bool, true, false}
-use mathlib.Core.Logic.{_⊎_, ⊎-elim}
+use mathlib.Core.Logic.{⊎-elim}
 use mathlib.Core.List.{List, [], _++_}
-use Prim.Native.Nat.{ℕ, _+_, _-_, _*_, _≤_, suc}
+use Prim.Native.Nat.{ℕ, _*_, _≤_, suc}
 use native.Mathlib.Nat.{eq-zero-or-pos}
 use lib.ListN.{length}
 use Rattle.passage.specs.Pass.{changeAsked, changeOf, changed}
 use Rattle.twin.proofs.Registers.{hop-own}
 use Rattle.roundtrip.specs.Between.{held}
 use Rattle.ground.proofs.Sweep.{length-tabulated}
-use Rattle.remainder.specs.Turned.{Bytes}
 use Rattle.lines.specs.Line.{lineOf, byteAt}
 use Rattle.questions.specs.Bytes.{onWire, lowHigh}
 use Rattle.questions.specs.declared.question.Question.{Question}
-use Rattle.acceptance.specs.Answer.{Registers}
 use Rattle.acceptance.proofs.Wire.{length-wire, wire-bytes}
 use Rattle.hearing.specs.Hear.{carried, plainly, heard}
 use Rattle.underway.specs.OnTheWay.{onTheWay, wireOf}
@@ -26,7 +24,10 @@ use Rattle.passage.proofs.EqualLength.{acts-place, acts-met}
 use Rattle.twin.specs.Step.{registersOf, withChange, Standing, hop}
 use Rattle.roundtrip.specs.Commands.{CommandFor}
 use Rattle.roundtrip.proofs.Values.{valuesOf, values-number, values-wire, values-registers}
-use Rattle.roundtrip.proofs.Acting.{met-is, heard-sends, wire-small, acts-on, hello-on, Acts}
+use Rattle.roundtrip.proofs.WhereItActs.{Acts}
+use Rattle.roundtrip.proofs.Acting.{acts-on}
+use Rattle.roundtrip.proofs.HelloActing.{met-is, hello-on}
+use Rattle.roundtrip.proofs.AnothersCommand.{heard-sends, wire-small}
 
 module _ (n k : ℕ) (line : List ℕ) where
   heard-own : heard n k line .device ≡ k

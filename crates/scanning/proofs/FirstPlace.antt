@@ -1,16 +1,20 @@
 -- Laws of the first failing place: it fails the test, every lower place passes it, and there is none exactly where all pass.
-use mathlib.Core.Path.{_≡_, refl, sym, ap, _∙_, subst}
-use mathlib.Core.Bool.{Bool, true, false, cond, true≢false}
+use mathlib.Core.Path.{_≡_, refl, sym, ap, ap₂, _∙_, subst}
+use mathlib.Core.Bool.{Bool, true, false, cond, true≢false, false≢true}
 use mathlib.Core.Logic.{⊎-elim}
 use mathlib.Core.List.{List}
 use Prim.Native.Nat.{ℕ, zero, suc, _+_, _-_, _≤_, _<_}
-use native.Mathlib.Nat.{eq-or-lt-of-le}
+use native.Mathlib.Nat.{add-suc, add-zero, eq-or-lt-of-le, suc-add, zero-add}
 use native.Mathlib.Numerals.{add-one}
 use native.Mathlib.Omega.{arith}
 use lib.ListN.{getD}
-use Rattle.scanning.specs.Place.{firstFailing}
+use Rattle.scanning.specs.Place.{firstFailing, firstNoNibble, isNowhere, allNibbles}
 use Rattle.scanning.specs.declared.Place.{Place}
 use Rattle.scanning.specs.declared.Place.the-variants.{At, Nowhere}
+
+is-nowhere : (p : Place) → isNowhere p ≡ true → p ≡ Nowhere
+is-nowhere (At i) e = absurd (false≢true e)
+is-nowhere Nowhere e = refl
 
 module _ (test : ℕ → Bool) (line : List ℕ) where
   -- ---- one place, and the rest up to an end: what a loop goes by
@@ -32,6 +36,16 @@ module _ (test : ℕ → Bool) (line : List ℕ) where
     pub scan-done : end ≤ i → firstFailing test line i (end - i) ≡ Nowhere
     unfolding firstFailing
     scan-done h = let none : end - i ≡ 0 = omega arith in ap (firstFailing test line i) none
+
+  -- places that pass are passed over
+  pub passed-over : (i n m : ℕ) → ((j : ℕ) → i ≤ j → j < i + n → test (getD line j 0) ≡ true) → firstFailing test line i (n + m) ≡ firstFailing test line (i + n) m
+  unfolding firstFailing
+  passed-over i zero m all = ap₂ (λ (k l : ℕ). firstFailing test line k l) (sym (add-zero i)) (zero-add m)
+  passed-over i (suc n) m all =
+      ap (firstFailing test line i) (suc-add n m)
+      ∙ ap (λ (t : Bool). cond t (firstFailing test line (suc i) (n + m)) (At i)) (all i (omega arith) (omega arith))
+      ∙ passed-over (suc i) n m (λ j lo hi. all j (omega arith) (omega arith))
+      ∙ ap (λ (k : ℕ). firstFailing test line k m) (suc-add i n ∙ sym (add-suc i n))
 
   -- ---- what the answer says
 
@@ -89,3 +103,17 @@ module _ (test : ℕ → Bool) (line : List ℕ) where
       by-answer : (r : Place) → Says i n r → r ≡ Nowhere
       by-answer (At k) s = absurd (true≢false (sym (h k (s .from) (s .below)) ∙ s .fails))
       by-answer Nowhere s = refl
+
+  -- a block in which no place is found is passed over
+  pub block-over : (i n end : ℕ) → i + n ≤ end → isNowhere (firstFailing test line i (i + n - i)) ≡ true
+      → firstFailing test line (i + n) (end - (i + n)) ≡ firstFailing test line i (end - i)
+  block-over i n end h e =
+      let size : i + n - i ≡ n = omega arith in
+      let rest : n + (end - (i + n)) ≡ end - i = omega arith in
+      let none = is-nowhere (firstFailing test line i n) (ap (λ (k : ℕ). isNowhere (firstFailing test line i k)) (sym size) ∙ e) in
+      sym (passed-over i n (end - (i + n)) (nowhere-passes i n none)) ∙ ap (firstFailing test line i) rest
+
+-- where every word between the ends is a nibble's, MANCHESTER finds no place
+pub nibbles-nowhere : (line : List ℕ) → allNibbles line ≡ true → firstNoNibble line ≡ Nowhere
+unfolding allNibbles
+nibbles-nowhere line e = is-nowhere (firstNoNibble line) e

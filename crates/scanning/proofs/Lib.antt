@@ -1,3 +1,4 @@
 pub mod FirstPlace
+pub mod Marks
 pub mod Whole
 pub mod Agree

@@ -1,5 +1,5 @@
 -- Bad places of a line (document 01, rows 4 and 6 of "Turned away"): the lowest one, counted in words from 0, or none.
-use mathlib.Core.Bool.{Bool, cond}
+use mathlib.Core.Bool.{Bool, true, false, cond}
 use mathlib.Core.List.{List}
 use Prim.Native.Nat.{ℕ, zero, suc, _-_}
 use lib.ListN.{length, getD}
@@ -27,3 +27,11 @@ firstNoCharacter line = firstFailing (testOf Character) line 0 (length line)
 -- MANCHESTER looks at the words between the first and the last
 unfoldable pub firstNoNibble : List ℕ → Place
 firstNoNibble line = firstFailing (testOf Manchester) line 1 (length line - 2)
+
+abbrev pub isNowhere : Place → Bool
+isNowhere (At i) = false
+isNowhere Nowhere = true
+
+-- whether MANCHESTER finds nothing: every word between the first and the last is a nibble's
+unfoldable pub allNibbles : List ℕ → Bool
+allNibbles line = isNowhere (firstNoNibble line)

@@ -17,7 +17,8 @@ use Rattle.writing.specs.PutLine.{putOf, outOf, LinePut, withByte}
 use Rattle.writing.specs.declared.Put.the-variants.{Words, NoRoom}
 use Rattle.lines.proofs.Line.{length-characters, length-line}
 
-characters-append : (xs ys : List ℕ) → charactersOf (xs ++ ys) ≡ charactersOf xs ++ charactersOf ys
+-- the characters of two runs of bytes
+pub characters-append : (xs ys : List ℕ) → charactersOf (xs ++ ys) ≡ charactersOf xs ++ charactersOf ys
 unfolding charactersOf
 characters-append [] ys = refl
 characters-append (x ∷ xs) ys = ap (λ (l : List ℕ). nibbleWord (x % 16) ∷ nibbleWord (x / 16) ∷ l) (characters-append xs ys)

@@ -3,7 +3,7 @@ use mathlib.Core.Path.{sym, subst, _∙_}
 use Rattle.jobs.proofs.Entries.{a-job}
 use Rattle.certificate.specs.Certificate.{CertificateDone}
 use Rattle.jobs.proofs.Placed.{no-job}
-use Rattle.certificate.proofs.Telling.{turned-away, certified}
+use Rattle.certificate.proofs.Certifying.{turned-away, certified}
 use borrow.Author.Needs.{needs}
 use Rattle.certificate.proofs.certify.Statement.{statement}
 use Rattle.certificate.proofs.certify.Tie as tie

@@ -7,7 +7,7 @@ use lib.Seq.{length-sets}
 use Rattle.packing.specs.Words.{wordsOf}
 use Rattle.readings.specs.Reading.{valuesTaken}
 use Rattle.judging.proofs.Accepted.{values-fit}
-use Rattle.certificate.proofs.Telling.{line-read, heard-is}
+use Rattle.certificate.proofs.OneHeard.{line-read, heard-is}
 use borrow.Author.Needs.{needs}
 use Rattle.certificate.proofs.hear_entry.Statement.{statement}
 use Rattle.certificate.proofs.hear_entry.Tie as tie

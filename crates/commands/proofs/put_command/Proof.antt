@@ -24,9 +24,6 @@ first-is q good s e = ap (λ (s : Shape). s .first % 256) e ∙ mod-eq-of-lt (go
 pos-of : (k : ℕ) → (k ≡ 0 → ⊥) → 1 ≤ k
 pos-of k h = omega arith
 
-zero-of : (a : ℕ) → a ≤ 1 → (a ≡ 1 → ⊥) → a ≡ 0
-zero-of a h k = omega arith
-
 shape-of-requires : tie.Need-shape-of-requires
 shape-of-requires c κs = search needs
 
@@ -69,45 +66,26 @@ returns-2 c =
     ∙ sym (write-command q (pos-of (q .kind) (c .before .before .before .before .before .if1 .left)) (c .before .before .before .before .if2 .taken)))
     (c .before .before .put-write .ensures)
 
-put-read-with-alive-requires : tie.Need-put-read-with-alive-requires
-put-read-with-alive-requires c κs =
-    let same = c .before .before .before .before .before .before .shape-of .ensures in
-    (c .before .if3 .taken, omega (arith, ap (λ (s : Shape). s .values) same, good-values (c .before .before .before .before .before .before .before .before .args .q) (c .before .before .before .before .before .before .before .before .pre)))
+put-read-requires : tie.Need-put-read-requires
+put-read-requires c κs =
+    let q = c .before .before .before .before .before .before .args .q in
+    let good = c .before .before .before .before .before .before .pre in
+    let same = c .before .before .before .before .shape-of .ensures in
+    (good-alive q good, omega (arith, ap (λ (s : Shape). s .values) same, good-values q good))
 
 same-length-3 : tie.Need-same-length-3
 same-length-3 c = search needs
 
 returns-3 : tie.Need-returns-3
 returns-3 c =
-    let a = c .before .before .before .before .before .before .before .before .before .before .before .args in
+    let a = c .before .before .before .before .before .before .before .before .before .args in
     let q = a .q in
-    let same = c .before .before .before .before .before .before .before .before .before .shape-of .ensures in
-    let first = first-is q (c .before .before .before .before .before .before .before .before .before .before .before .pre) (c .before .before .before .before .before .before .before .before .before .shape-of .result) same in
-    subst (λ (bytes : List ℕ). LinePut bytes (a .out .now) (c .before .before .put-read-with-alive .last .1 .1 .1 .0) (c .before .before .put-read-with-alive .result))
+    let same = c .before .before .before .before .before .before .before .shape-of .ensures in
+    let first = first-is q (c .before .before .before .before .before .before .before .before .before .pre) (c .before .before .before .before .before .before .before .shape-of .result) same in
+    subst (λ (bytes : List ℕ). LinePut bytes (a .out .now) (c .before .before .put-read .last .1 .1 .1 .0) (c .before .before .put-read .result))
     (ap₂ (λ (x k : ℕ). sealed q 0 (x ∷ q .reg ∷ 0 ∷ []) ++ fillPairs k) first (ap (λ (s : Shape). s .values) same)
-    ∙ sym (read-command q (c .before .before .before .before .before .before .if2 .left)))
-    (c .before .before .put-read-with-alive .ensures)
-
-put-read-without-alive-requires : tie.Need-put-read-without-alive-requires
-put-read-without-alive-requires c κs =
-    let same = c .before .before .before .before .before .before .shape-of .ensures in (
-      zero-of (c .before .before .before .before .before .before .before .before .args .q .alive) (good-alive (c .before .before .before .before .before .before .before .before .args .q) (c .before .before .before .before .before .before .before .before .pre)) (c .before .if3 .left),
-      omega (arith, ap (λ (s : Shape). s .values) same, good-values (c .before .before .before .before .before .before .before .before .args .q) (c .before .before .before .before .before .before .before .before .pre)),
-    )
-
-same-length-4 : tie.Need-same-length-4
-same-length-4 c = search needs
-
-returns-4 : tie.Need-returns-4
-returns-4 c =
-    let a = c .before .before .before .before .before .before .before .before .before .before .before .args in
-    let q = a .q in
-    let same = c .before .before .before .before .before .before .before .before .before .shape-of .ensures in
-    let first = first-is q (c .before .before .before .before .before .before .before .before .before .before .before .pre) (c .before .before .before .before .before .before .before .before .before .shape-of .result) same in
-    subst (λ (bytes : List ℕ). LinePut bytes (a .out .now) (c .before .before .put-read-without-alive .last .1 .1 .1 .0) (c .before .before .put-read-without-alive .result))
-    (ap₂ (λ (x k : ℕ). sealed q 0 (x ∷ q .reg ∷ 0 ∷ []) ++ fillPairs k) first (ap (λ (s : Shape). s .values) same)
-    ∙ sym (read-command q (c .before .before .before .before .before .before .if2 .left)))
-    (c .before .before .put-read-without-alive .ensures)
+    ∙ sym (read-command q (c .before .before .before .before .if2 .left)))
+    (c .before .before .put-read .ensures)
 
 pub put-command-spec : {M : Type 1} → statement M
 put-command-spec =
@@ -122,9 +100,6 @@ put-command-spec =
     put-write-requires
     same-length-2
     returns-2
-    put-read-with-alive-requires
+    put-read-requires
     same-length-3
-    returns-3
-    put-read-without-alive-requires
-    same-length-4
-    returns-4)
+    returns-3)

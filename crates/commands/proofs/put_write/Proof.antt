@@ -1,11 +1,11 @@
 -- `put_write` meets its contract: the places taken are the command's bytes.
 use mathlib.Core.Path.{subst}
 use mathlib.Core.List.{List}
-use Prim.Native.Nat.{ℕ, _%_, _/_, _<_}
+use Prim.Native.Nat.{ℕ, _<_}
 use native.Mathlib.Omega.{arith}
 use lib.ListN.{length-take}
 use Rattle.writing.specs.PutLine.{LinePut}
-use Rattle.commands.proofs.Writing.{write-taken, pec-of-four}
+use Rattle.commands.proofs.Writing.{write-taken}
 use borrow.Author.Needs.{needs}
 use Rattle.commands.proofs.put_write.Statement.{statement}
 use Rattle.commands.proofs.put_write.Tie as tie
@@ -16,17 +16,11 @@ cast-low c = search needs
 cast-high : tie.Need-cast-high
 cast-high c = search needs
 
-step-requires : tie.Need-step-requires
-step-requires c κs = search needs
+slice-aggregate-pec : tie.Need-slice-aggregate-pec
+slice-aggregate-pec c = search needs
 
-step-requires-2 : tie.Need-step-requires-2
-step-requires-2 c κs = search needs
-
-step-requires-3 : tie.Need-step-requires-3
-step-requires-3 c κs = search needs
-
-step-requires-4 : tie.Need-step-requires-4
-step-requires-4 c κs = search needs
+pec-requires : tie.Need-pec-requires
+pec-requires c κs = search needs
 
 cast-end : tie.Need-cast-end
 cast-end c = search needs
@@ -48,16 +42,12 @@ same-length c = search needs
 
 returns : tie.Need-returns
 returns c =
-    let a = c .before .before .before .before .before .before .before .before .before .before .before .before .before .args in
+    let a = c .before .before .before .before .before .before .before .before .before .before .before .args in
     let q = a .q in
-    let p = c .before .before .before .before .before .before in
-    let check =
-    pec-of-four (a .first) (q .reg) (q .value % 256) (q .value / 256) (p .before .before .before .step .result) (p .before .before .step2 .result)
-    (p .before .step3 .result) (p .step4 .result) (p .before .before .before .step .ensures) (p .before .before .step2 .ensures)
-    (p .before .step3 .ensures) (p .step4 .ensures) in
-    let small : q .seed < 256 = omega (arith, c .before .before .before .before .before .before .before .before .before .before .before .before .before .good .1 .0) in
+    let check = c .before .before .before .before .before .before .pec in
+    let small : q .seed < 256 = omega (arith, c .before .before .before .before .before .before .before .before .before .before .before .good .1 .0) in
     subst (λ (bytes : List ℕ). LinePut bytes (a .out .now) (c .before .before .put-line .last .1 .0) (c .before .before .put-line .result))
-    (write-taken q (a .first) (p .step4 .result) (c .before .before .before .before .before .before .before .before .before .before .before .before .before .pre) small check) (c .before .before .put-line .ensures)
+    (write-taken q (a .first) (check .result) (c .before .before .before .before .before .before .before .before .before .before .before .pre) small (check .ensures)) (c .before .before .put-line .ensures)
 
 pub put-write-spec : {M : Type 1} → statement M
 put-write-spec =
@@ -65,10 +55,8 @@ put-write-spec =
     (tie.spec
     cast-low
     cast-high
-    step-requires
-    step-requires-2
-    step-requires-3
-    step-requires-4
+    slice-aggregate-pec
+    pec-requires
     cast-end
     add-end
     array-share-prefix-bytes

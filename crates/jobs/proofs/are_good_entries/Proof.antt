@@ -6,7 +6,8 @@ use lib.ListN.{length, drop, length-drop}
 use borrow.Author.Tests.{not-true, not-false}
 use Rattle.ground.proofs.Lists.{part-to-end}
 use Rattle.jobs.specs.Check.{wordsIn, goodEntry, goodEntries}
-use Rattle.jobs.proofs.Entries.{good, good-here, bad-here, no-more-good}
+use Rattle.jobs.proofs.GoodEntry.{good}
+use Rattle.jobs.proofs.Entries.{good-here, bad-here, no-more-good}
 use Rattle.jobs.proofs.are_good_entries.Statement.{statement}
 use Rattle.jobs.proofs.are_good_entries.Tie as tie
 

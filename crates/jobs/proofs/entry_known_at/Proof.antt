@@ -7,7 +7,7 @@ use Rattle.ground.proofs.Lists.{part-to-end}
 use Rattle.questions.specs.declared.question.Question.{Question}
 use Rattle.jobs.specs.declared.Next.the-variants as next
 use Rattle.jobs.specs.Check.{wordsIn, askedIn}
-use Rattle.jobs.proofs.Entries.{good}
+use Rattle.jobs.proofs.GoodEntry.{good}
 use borrow.Author.Needs.{needs}
 use Rattle.jobs.proofs.entry_known_at.Statement.{statement}
 use Rattle.jobs.proofs.entry_known_at.Tie as tie

@@ -7,7 +7,7 @@ use borrow.Author.Tests.{le-leb, lt-leb}
 use Rattle.questions.specs.declared.question.Question.{Question}
 use Rattle.jobs.specs.Rules.{unusedAreZero}
 use Rattle.jobs.specs.Check.{askedIn}
-use Rattle.jobs.proofs.Entries.{too-short, too-many, cut-short, of-its-fields}
+use Rattle.jobs.proofs.GoodEntry.{too-short, too-many, cut-short, of-its-fields}
 use borrow.Author.Needs.{needs}
 use Rattle.jobs.proofs.is_good_entry.Statement.{statement}
 use Rattle.jobs.proofs.is_good_entry.Tie as tie

@@ -7,7 +7,7 @@ use borrow.Author.Tests.{not-true, not-false}
 use Rattle.ground.proofs.Lists.{part-to-end}
 use Rattle.jobs.specs.declared.Next.the-variants as next
 use Rattle.jobs.specs.Check.{goodEntry, placedIn, nextIn, nextOf}
-use Rattle.jobs.proofs.Entries.{next-is}
+use Rattle.jobs.proofs.GoodEntry.{next-is}
 use borrow.Author.Needs.{needs}
 use Rattle.jobs.proofs.next_entry.Statement.{statement}
 use Rattle.jobs.proofs.next_entry.Tie as tie

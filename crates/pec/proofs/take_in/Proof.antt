@@ -2,20 +2,23 @@
 use mathlib.Core.Path.{ap, _∙_}
 use mathlib.Core.List.{List}
 use Prim.Native.Nat.{ℕ}
-use lib.Bits.{bitXor}
+use native.Mathlib.Omega.{arith}
+use lib.Bits.{bitXor, xor-lt}
 use lib.ListN.{getD}
 use Rattle.pec.proofs.Byte.{by-table}
-use borrow.Author.Needs.{needs}
 use Rattle.pec.proofs.take_in.Statement.{statement}
 use Rattle.pec.proofs.take_in.Tie as tie
 
-step-by-requires : tie.Need-step-by-requires
-step-by-requires c κs = search needs
+cast-result : tie.Need-cast-result
+cast-result c = omega (arith, xor-lt 8 (c .args .crc) (c .args .byte) (c .fits .crc .fits) (c .fits .byte .fits))
+
+element-copy-out-result : tie.Need-element-copy-out-result
+element-copy-out-result c = xor-lt 8 (c .args .crc) (c .args .byte) (c .fits .crc .fits) (c .fits .byte .fits)
 
 returns : tie.Need-returns
 returns c =
     let a = c .before .args in
-    c .step-by .ensures ∙ ap (λ (t : List ℕ). getD t (bitXor (a .crc) (a .byte)) 0) (c .before .pre) ∙ by-table (a .crc) (a .byte) (c .before .fits .crc .fits) (c .before .fits .byte .fits)
+    ap (λ (t : List ℕ). getD t (bitXor (a .crc) (a .byte)) 0) (c .before .pre) ∙ by-table (a .crc) (a .byte) (c .before .fits .crc .fits) (c .before .fits .byte .fits)
 
 pub take-in-spec : {M : Type 1} → statement M
-take-in-spec = tie.close (tie.spec step-by-requires returns)
+take-in-spec = tie.close (tie.spec cast-result element-copy-out-result returns)

@@ -32,7 +32,7 @@ array-share-prefix-out : tie.Need-array-share-prefix-out
 array-share-prefix-out c = omega (arith, written-within (c .before .before .before .before .before .before .before .before .args .file .now) (c .before .before .before .before .before .before .job-memory .result) (c .before .rehearsed .given .0 .0) (sym (c .before .before .before .before .rehearse .ensures .says) ∙ c .before .rehearsed .given .1), c .before .before .before .before .rehearse .kept .1 .0)
 
 slice-aggregate-say-2 : tie.Need-slice-aggregate-say-2
-slice-aggregate-say-2 c = simp length-take (omega (arith, written-within (c .before .before .before .before .before .before .before .before .before .args .file .now) (c .before .before .before .before .before .before .before .job-memory .result) (c .before .before .rehearsed .given .0 .0) (sym (c .before .before .before .before .before .rehearse .ensures .says) ∙ c .before .before .rehearsed .given .1), c .before .before .before .before .before .before .before .job-memory .ensures, c .before .before .before .before .before .rehearse .kept .1 .0))
+slice-aggregate-say-2 c = simp length-take (omega (arith, written-within (c .before .before .before .before .before .before .before .before .before .args .file .now) (c .before .before .before .before .before .before .before .job-memory .result) (c .before .before .rehearsed .given .0 .0) (sym (c .before .before .before .before .before .rehearse .ensures .says) ∙ c .before .before .rehearsed .given .1), c .before .before .before .before .before .rehearse .kept .1 .0))
 
 say-requires-2 : tie.Need-say-requires-2
 say-requires-2 c κs = search needs

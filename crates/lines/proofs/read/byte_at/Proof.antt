@@ -1,5 +1,5 @@
 -- `byte_at` meets its contract: its two words are byte i's, and past the end both read as 0.
-use mathlib.Core.Path.{sym, ap, ap₂, _∙_}
+use mathlib.Core.Path.{sym, ap₂, _∙_}
 use Prim.Native.Nat.{ℕ, _+_, _*_, _≤_}
 use native.Mathlib.Omega.{arith}
 use lib.ListN.{length, List·getD-eq-default}
@@ -27,9 +27,6 @@ add-word-at c = search needs
 word-at-requires : tie.Need-word-at-requires
 word-at-requires c κs = search needs
 
-true-bits-requires : tie.Need-true-bits-requires
-true-bits-requires c κs = search needs
-
 mul-word-at-2 : tie.Need-mul-word-at-2
 mul-word-at-2 c = search needs
 
@@ -39,20 +36,12 @@ add-word-at-2 c = search needs
 word-at-requires-2 : tie.Need-word-at-requires-2
 word-at-requires-2 c κs = search needs
 
-true-bits-requires-2 : tie.Need-true-bits-requires-2
-true-bits-requires-2 c κs = search needs
-
-mul-result : tie.Need-mul-result
-mul-result c = search needs
-
-add-result : tie.Need-add-result
-add-result c = search needs
+two-nibbles-requires : tie.Need-two-nibbles-requires
+two-nibbles-requires c κs = search needs
 
 returns-2 : tie.Need-returns-2
 unfolding byteAt
-returns-2 c =
-    ap₂ (λ (x y : ℕ). x + 16 * y) (c .before .before .true-bits .ensures ∙ ap trueBits (c .before .before .before .word-at .ensures))
-    (c .true-bits2 .ensures ∙ ap trueBits (c .before .word-at2 .ensures))
+returns-2 c = c .two-nibbles .ensures ∙ ap₂ (λ (x y : ℕ). trueBits x + 16 * trueBits y) (c .before .before .word-at .ensures) (c .before .word-at2 .ensures)
 
 pub byte-at-spec : {M : Type 1} → statement M
 byte-at-spec =
@@ -62,11 +51,8 @@ byte-at-spec =
     mul-word-at
     add-word-at
     word-at-requires
-    true-bits-requires
     mul-word-at-2
     add-word-at-2
     word-at-requires-2
-    true-bits-requires-2
-    mul-result
-    add-result
+    two-nibbles-requires
     returns-2)

@@ -1,21 +1,21 @@
 -- `pec_over` meets its contract: what is left of the bytes up to the end, taken in from here, always comes to the PEC of them all.
 use mathlib.Core.Path.{_≡_, refl, sym, ap, _∙_}
-use Prim.Native.Nat.{ℕ, min, _+_, _-_, _<_, _≤_}
+use Prim.Native.Nat.{ℕ, min, _+_, _-_, _≤_}
 use native.Mathlib.Omega.{arith}
-use lib.ListN.{length, getD, take, drop}
+use lib.ListN.{length, take, drop}
 use Rattle.remainder.specs.Register.{run}
-use Rattle.remainder.proofs.Run.{run-next, run-end}
+use Rattle.remainder.proofs.Run.{run-append, run-end}
 use Rattle.pec.specs.Pec.{byteStep, pecOf}
-use Rattle.lines.specs.Line.{byteCount, bytesOf, pecOver}
-use Rattle.lines.proofs.Line.{length-part, part-at}
+use Rattle.lines.specs.Line.{byteCount, bytesOf, bytesFrom, pecOver}
+use Rattle.lines.proofs.Line.{length-part, part-next}
 use Rattle.lines.proofs.read.pec_over.Statement.{statement}
 use Rattle.lines.proofs.read.pec_over.Tie as tie
 
 abbrev Inv-loop : tie.InvT-loop
-Inv-loop line from to count end table crc₀ i₀ crc i = (end ≡ min to (byteCount line)) × (run byteStep crc (drop i (take to (bytesOf line))) ≡ pecOver line from to)
+Inv-loop line from to count end crc₀ i₀ crc i = (end ≡ min to (byteCount line)) × (run byteStep crc (drop i (take to (bytesOf line))) ≡ pecOver line from to)
 
 abbrev μ-loop : tie.MeasureT-loop
-μ-loop line from to count end table crc₀ i₀ crc i = end - i
+μ-loop line from to count end crc₀ i₀ crc i = end - i
 
 byte-count-requires : tie.Need-byte-count-requires Inv-loop μ-loop
 byte-count-requires c κs = tt
@@ -23,45 +23,42 @@ byte-count-requires c κs = tt
 least-requires : tie.Need-least-requires Inv-loop μ-loop
 least-requires c κs = tt
 
-remainders-requires : tie.Need-remainders-requires Inv-loop μ-loop
-remainders-requires c κs = tt
-
 loop-holds : tie.Need-loop-holds Inv-loop μ-loop
 unfolding pecOver pecOf
-loop-holds c =
-    let to = c .before .before .before .before .args .to in
-    (c .before .least .ensures ∙ ap (min to) (c .before .before .byte-count .ensures), refl)
+loop-holds c = (c .least .ensures ∙ ap (min (c .before .before .before .args .to)) (c .before .byte-count .ensures), refl)
 
-byte-at-requires : tie.Need-byte-at-requires Inv-loop μ-loop
-byte-at-requires c κs = tt
+sub-least : tie.Need-sub-least Inv-loop μ-loop
+sub-least c = omega arith
 
-take-in-requires : tie.Need-take-in-requires Inv-loop μ-loop
-take-in-requires c κs = c .before .before .before .before .remainders .ensures
+least-requires-2 : tie.Need-least-requires-2 Inv-loop μ-loop
+least-requires-2 c κs = tt
+
+take-in-part-requires : tie.Need-take-in-part-requires Inv-loop μ-loop
+take-in-part-requires c κs = (omega (arith, c .least2 .ensures), omega (arith, c .least2 .ensures, c .before .loop-test .taken, c .before .before .loop .inv .0))
 
 add-i : tie.Need-add-i Inv-loop μ-loop
-add-i c = omega arith
+add-i c = omega (arith, c .before .least2 .ensures, c .before .before .loop-test .taken)
 
 loop-less : tie.Need-loop-less Inv-loop μ-loop
-loop-less c = omega arith
+loop-less c = omega (arith, c .before .least2 .ensures, c .before .before .loop-test .taken)
 
 loop-again : tie.Need-loop-again Inv-loop μ-loop
 loop-again c =
-    let a = c .before .before .before .before .before .before .before .before .before .args in
+    let a = c .before .before .before .before .before .before .before .args in
     let l = a .line .now in
-    let at = c .before .before .before .before .loop in
+    let at = c .before .before .before .loop in
+    let m = c .before .least2 .result in
     let part = take (a .to) (bytesOf l) in
-    let here : at .i < min (a .to) (byteCount l) = omega (arith, at .inv .0, c .before .before .before .loop-test .taken) in
-    let byte : c .before .byte-at .result ≡ getD part (at .i) 0 =
-    c .before .byte-at .ensures ∙ sym (part-at l (a .to) (at .i) here) in
-    let within : at .i < length part = omega (arith, length-part l (a .to)) in (
+    let inside : at .i + m ≤ min (a .to) (byteCount l) = omega (arith, c .before .least2 .ensures, c .before .before .loop-test .taken, at .inv .0) in (
       at .inv .0,
-      ap (λ (crc : ℕ). run byteStep crc (drop (at .i + 1) part)) (c .take-in .ensures ∙ ap (byteStep (at .crc)) byte)
-          ∙ sym (run-next byteStep (at .crc) part (at .i) within) ∙ at .inv .1,
+      ap (λ (crc : ℕ). run byteStep crc (drop (at .i + m) part)) (c .take-in-part .ensures)
+          ∙ sym (run-append byteStep (at .crc) (bytesFrom l (at .i) m) (drop (at .i + m) part))
+          ∙ sym (ap (run byteStep (at .crc)) (part-next l (a .to) (at .i) m inside)) ∙ at .inv .1,
     )
 
 returns : tie.Need-returns Inv-loop μ-loop
 returns c =
-    let a = c .before .before .before .before .before .before .args in
+    let a = c .before .before .before .before .before .args in
     let l = a .line .now in
     let at = c .before .loop in
     let part = take (a .to) (bytesOf l) in
@@ -76,10 +73,10 @@ pec-over-spec =
     μ-loop
     byte-count-requires
     least-requires
-    remainders-requires
     loop-holds
-    byte-at-requires
-    take-in-requires
+    sub-least
+    least-requires-2
+    take-in-part-requires
     add-i
     loop-less
     loop-again

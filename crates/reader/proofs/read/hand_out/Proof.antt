@@ -1,77 +1,94 @@
--- `hand_out` meets its contract: the loop keeps the values passed at the front of the output, and all else as it was.
-use mathlib.Core.Path.{_≡_, refl, ap, _∙_}
+-- `hand_out` meets its contract: the lent part of the array is the values' bytes, and the values in them are the line's.
+use mathlib.Core.Path.{_≡_, sym, ap, ap₂, _∙_}
 use mathlib.Core.List.{List}
-use Prim.Native.Nat.{ℕ, _-_, _≤_}
+use Prim.Native.Nat.{ℕ, _+_, _-_, _*_, _<_}
 use native.Mathlib.Omega.{arith}
-use lib.ListN.{length, set, length-set}
-use lib.Seq.{sets}
-use Rattle.ground.specs.Sweep.{tabulated}
-use Rattle.ground.proofs.Sweep.{length-tabulated}
-use Rattle.ground.proofs.Lists.{sets-front, filled-next}
-use Rattle.reader.specs.Read.{valueAt, valuesOn}
+use lib.ListN.{length, take, drop, length-append}
+use lib.Seq.{length-take-le, take-at}
+use Rattle.ground.proofs.Sweep.{tabulated-at, tabulated-same}
+use Rattle.lines.specs.Line.{byteAt, bytesFrom}
+use Rattle.lines.specs.Write.{atFront}
+use Rattle.lines.proofs.Line.{all-read}
+use Rattle.reader.specs.Read.{valueAt, valuesOn, valueIn, valuesIn}
+use borrow.Author.Needs.{needs}
 use Rattle.reader.proofs.read.hand_out.Statement.{statement}
 use Rattle.reader.proofs.read.hand_out.Tie as tie
 
-abbrev Inv-loop : tie.InvT-loop
-Inv-loop line m out₀ k₀ out k =
-    (k ≤ m) × (out ≡ sets out₀ 0 (tabulated (valueAt line m) k 0)) × (length out ≡ length out₀)
+-- the values in the bytes from the third on are the line's
+value-same : (line : List ℕ) (m k : ℕ) → k < m → valueIn (bytesFrom line 2 (2 * m)) m k ≡ valueAt line m k
+unfolding valueAt
+value-same line m k h =
+    ap₂ (λ (x y : ℕ). x + 256 * y)
+    (tabulated-at (λ (j : ℕ). byteAt line (2 + j)) (2 * m) 0 (2 * (m - 1 - k)) (omega arith) ∙ ap (byteAt line) (omega arith))
+    (tabulated-at (λ (j : ℕ). byteAt line (2 + j)) (2 * m) 0 (2 * (m - 1 - k) + 1) (omega arith) ∙ ap (byteAt line) (omega arith))
 
-abbrev μ-loop : tie.MeasureT-loop
-μ-loop line m out₀ k₀ out k = m - k
+values-same : (line : List ℕ) (m : ℕ) → valuesIn (bytesFrom line 2 (2 * m)) m ≡ valuesOn line m
+values-same line m = tabulated-same (valueIn (bytesFrom line 2 (2 * m)) m) (valueAt line m) m 0 (λ k h. value-same line m k (omega arith))
 
-loop-holds : tie.Need-loop-holds Inv-loop μ-loop
-loop-holds c = (omega arith, refl, refl)
+blank-bytes-requires : tie.Need-blank-bytes-requires
+blank-bytes-requires c κs = search needs
 
-value-at-requires : tie.Need-value-at-requires Inv-loop μ-loop
-value-at-requires c κs = omega arith
+mul-end : tie.Need-mul-end
+mul-end c = search needs
 
-mul-out : tie.Need-mul-out Inv-loop μ-loop
-mul-out c = omega arith
+array-borrow-prefix-bytes : tie.Need-array-borrow-prefix-bytes
+array-borrow-prefix-bytes c = search needs
 
-slice-write-out : tie.Need-slice-write-out Inv-loop μ-loop
-slice-write-out c = omega arith
+slice-aggregate-read-bytes : tie.Need-slice-aggregate-read-bytes
+slice-aggregate-read-bytes c = sym (length-take-le (2 * c .before .before .before .before .args .m) (c .before .blank-bytes .result) (omega (arith, c .before .blank-bytes .ensures, c .before .before .before .before .pre .0)))
 
-add-k : tie.Need-add-k Inv-loop μ-loop
-add-k c = omega arith
+read-bytes-requires : tie.Need-read-bytes-requires
+read-bytes-requires c κs = search needs
 
-loop-less : tie.Need-loop-less Inv-loop μ-loop
-loop-less c = omega arith
+array-share-prefix-bytes : tie.Need-array-share-prefix-bytes
+array-share-prefix-bytes c =
+    let blank = c .before .before .before .blank-bytes .result in
+    let end = 2 * c .before .before .before .before .before .before .args .m in
+    omega (arith, length-append (c .before .read-bytes .last .1 .1 .0) (drop end blank), c .before .read-bytes .kept .1 .1 .0, length-take-le end blank (omega (arith, c .before .before .before .blank-bytes .ensures, c .before .before .before .before .before .before .pre .0)))
 
-loop-again : tie.Need-loop-again Inv-loop μ-loop
-loop-again c =
-    let a = c .before .before .before .before .before .args in
-    let at = c .before .before .loop in
-    let f = valueAt (a .line .now) (a .m) in (
-      omega arith,
-      ap (set (at .out) (at .k)) (c .value-at .ensures) ∙ ap (λ (l : List ℕ). set l (at .k) (f (at .k))) (at .inv .1)
-          ∙ filled-next f (a .out .now) (at .k),
-      length-set (at .out) (at .k) (c .value-at .result) ∙ at .inv .2,
-    )
+slice-aggregate-put-values : tie.Need-slice-aggregate-put-values
+slice-aggregate-put-values c =
+    let blank = c .before .before .before .before .blank-bytes .result in
+    let end = 2 * c .before .before .before .before .before .before .before .args .m in
+    let size : length (c .before .before .read-bytes .last .1 .1 .0) ≡ end = c .before .before .read-bytes .kept .1 .1 .0 ∙ length-take-le end blank (omega (arith, c .before .before .before .before .blank-bytes .ensures, c .before .before .before .before .before .before .before .pre .0)) in
+    sym (ap length (take-at (c .before .before .read-bytes .last .1 .1 .0) (drop end blank) end size) ∙ size)
 
-same-length : tie.Need-same-length Inv-loop μ-loop
-same-length c = c .before .loop .inv .2
+put-values-requires : tie.Need-put-values-requires
+put-values-requires c κs =
+    let a = c .before .before .before .before .before .before .before .before .args in
+    let blank = c .before .before .before .before .before .blank-bytes .result in
+    let end = 2 * a .m in
+    let part = c .before .before .before .read-bytes .last .1 .1 .0 in
+    let size : length part ≡ end = c .before .before .before .read-bytes .kept .1 .1 .0 ∙ length-take-le end blank (omega (arith, c .before .before .before .before .before .blank-bytes .ensures, c .before .before .before .before .before .before .before .before .pre .0)) in
+    (omega (arith, ap length (take-at part (drop end blank) end size), size), c .before .before .before .before .before .before .before .before .pre .1)
 
-returns : tie.Need-returns Inv-loop μ-loop
+same-length : tie.Need-same-length
+same-length c = search needs
+
+returns : tie.Need-returns
 returns c =
-    let a = c .before .before .before .before .args in
-    let at = c .before .loop in
-    let f = valueAt (a .line .now) (a .m) in
-    let all : at .k ≡ a .m = omega arith in
-    let room : length (valuesOn (a .line .now) (a .m)) ≤ length (a .out .now) = omega (arith, length-tabulated f (a .m) 0, c .before .before .before .before .pre .1) in
-    at .inv .1 ∙ ap (λ (n : ℕ). sets (a .out .now) 0 (tabulated f n 0)) all ∙ sets-front (valuesOn (a .line .now) (a .m)) (a .out .now) room
+    let a = c .before .before .before .before .before .before .before .before .before .before .before .args in
+    let blank = c .before .before .before .before .before .before .before .before .blank-bytes .result in
+    let end = 2 * a .m in
+    let part = c .before .before .before .before .before .before .read-bytes .last .1 .1 .0 in
+    let few = length-take-le end blank (omega (arith, c .before .before .before .before .before .before .before .before .blank-bytes .ensures, c .before .before .before .before .before .before .before .before .before .before .before .pre .0)) in
+    c .before .before .put-values .ensures
+    ∙ ap (λ (l : List ℕ). atFront l (a .out .now))
+    (ap (λ (l : List ℕ). valuesIn l (a .m))
+    (take-at part (drop end blank) end (c .before .before .before .before .before .before .read-bytes .kept .1 .1 .0 ∙ few) ∙ c .before .before .before .before .before .before .read-bytes .ensures ∙ all-read (a .line .now) (take end blank) 2 end few (c .before .before .before .before .before .before .before .before .before .before .before .pre .2))
+    ∙ values-same (a .line .now) (a .m))
 
 pub hand-out-spec : {M : Type 1} → statement M
 hand-out-spec =
     tie.close
     (tie.spec
-    Inv-loop
-    μ-loop
-    loop-holds
-    value-at-requires
-    mul-out
-    slice-write-out
-    add-k
-    loop-less
-    loop-again
+    blank-bytes-requires
+    mul-end
+    array-borrow-prefix-bytes
+    slice-aggregate-read-bytes
+    read-bytes-requires
+    array-share-prefix-bytes
+    slice-aggregate-put-values
+    put-values-requires
     same-length
     returns)

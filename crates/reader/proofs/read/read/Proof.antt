@@ -6,7 +6,7 @@ use lib.ListN.{length}
 use Rattle.lines.specs.Write.{atFront}
 use Rattle.readings.specs.Reading.{valuesTaken}
 use Rattle.reader.specs.Read.{valuesOn}
-use Rattle.judging.proofs.Accepted.{values-fit}
+use Rattle.judging.proofs.Accepted.{values-fit, values-carried}
 use borrow.Author.Needs.{needs}
 use Rattle.reader.proofs.read.read.Statement.{statement}
 use Rattle.reader.proofs.read.read.Tie as tie
@@ -22,7 +22,8 @@ hand-out-requires c κs =
     let a = c .before .before .before .before .before .args in
     let count = c .before .values-taken .ensures ∙ ap valuesTaken (c .before .before .judge .ensures) in
     let fit = values-fit (a .q) (a .line .now) (length (a .out .now)) in
-    (omega (arith, count, fit .0), omega (arith, count, fit .1))
+    let carried = values-carried (a .q) (a .line .now) (length (a .out .now)) in
+    (omega (arith, count, fit .0), omega (arith, count, fit .1), omega (arith, count, carried))
 
 same-length : tie.Need-same-length
 same-length c = search needs

@@ -1,0 +1,62 @@
+-- What `certify` answers: a file that is no job is turned away, and a job's certificate is what was printed.
+use mathlib.Core.Path.{_≡_, refl, sym, ap, subst, _∙_}
+use mathlib.Core.Bool.{Bool, true, false, cond}
+use mathlib.Core.List.{List}
+use Prim.Native.Nat.{ℕ, _≤_}
+use native.Mathlib.Omega.{arith}
+use lib.Dec.{leb}
+use lib.ListN.{length, drop, length-drop, length-map}
+use borrow.Author.Tests.{le-leb}
+use Rattle.lines.specs.Write.{atFront}
+use Rattle.jobs.specs.declared.Header.{Header}
+use Rattle.jobs.specs.Check.{entriesIn, goodFile, headerIn}
+use Rattle.jobs.proofs.Entries.{few-entries, parts}
+use Rattle.printing.specs.Text.{certificateText}
+use Rattle.printing.specs.Print.{printedOf, textAfter, PrintDone}
+use Rattle.printing.specs.declared.Printed.{Printed}
+use Rattle.printing.specs.declared.Printed.the-variants as printed
+use Rattle.certificate.specs.declared.Certified.the-variants.{Bytes, File, Room}
+use Rattle.certificate.specs.Certificate.{heardOf, heardIn, numberFor, numbersOf, standingOf, certificateOf, certifiedOf, CertificateDone}
+use Rattle.certificate.specs.Certificate as certificate
+use Rattle.certificate.specs.Telling.{certifiedAs}
+
+pub turned-away : (file text : List ℕ) → goodFile file ≡ false → CertificateDone file text text File
+unfolding certifiedOf certificate.textAfter
+turned-away file text bad = record { says = simp bad; leaves = simp bad }
+
+-- a good file has no more entries than can be printed
+pub countable : (file : List ℕ) → goodFile file ≡ true → length (numbersOf (heardIn file)) ≤ 8191
+countable file ok =
+    let entries = entriesIn (drop 7 file) in
+    let p = parts file ok in
+    omega (
+      arith,
+      length-map (heardIn file) numberFor,
+      length-map entries (heardOf (headerIn file)),
+      few-entries (headerIn file) (drop 7 file) (p .entries),
+      length-drop 7 file,
+      p .size,
+      p .long,
+    )
+
+pub certified : (h : Header) (file text text′ : List ℕ) (r : Printed) → goodFile file ≡ true → h ≡ headerIn file
+    → PrintDone (h .n) (numbersOf (heardIn file)) (standingOf file) text text′ r → CertificateDone file text text′ (certifiedAs r)
+unfolding certifiedOf certificate.textAfter certificateOf printedOf textAfter
+certified h file text text′ r ok is done =
+    let numbers = numbersOf (heardIn file) in
+    let few = le-leb (length numbers) 8191 (countable file ok) in
+    let done′ = subst (λ (x : Header). PrintDone (x .n) numbers (standingOf file) text text′ r) is done in
+    let cert = certificateText (headerIn file .n) numbers (standingOf file) in
+    let fits = leb (length cert) (length text) in
+    record {
+      says =
+          ap certifiedAs (done′ .says) ∙ ap (λ (t : Bool). certifiedAs (cond t (cond fits (printed.Bytes (length cert)) printed.Room) printed.Many)) few
+          ∙ either fits (length cert) ∙ sym (ap (λ (t : Bool). cond t (cond fits (Bytes (length cert)) Room) File) ok);
+      leaves =
+          done′ .leaves ∙ ap (λ (t : Bool). cond t (cond fits (atFront cert text) text) text) few
+          ∙ sym (ap (λ (t : Bool). cond t (cond fits (atFront cert text) text) text) ok);
+    }
+  where
+    either : (t : Bool) (n : ℕ) → certifiedAs (cond t (printed.Bytes n) printed.Room) ≡ cond t (Bytes n) Room
+    either true n = refl
+    either false n = refl

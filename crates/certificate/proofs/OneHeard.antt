@@ -1,0 +1,45 @@
+-- One entry heard: its words stand at the front of the buffer, and the number and the standing after it are those defined.
+use mathlib.Core.Path.{_≡_, ap, ap₂, _∙_}
+use mathlib.Core.List.{List}
+use Prim.Native.Nat.{ℕ, _*_, _≤_}
+use native.Mathlib.Omega.{arith}
+use lib.ListN.{length, take, drop}
+use lib.Seq.{sets, take-at}
+use Rattle.ground.proofs.Sweep.{length-tabulated}
+use Rattle.ground.proofs.Lists.{sets-front}
+use Rattle.lines.specs.Write.{atFront}
+use Rattle.packing.specs.Words.{wordsOf}
+use Rattle.packing.proofs.Back.{length-words}
+use Rattle.questions.specs.declared.question.Question.{Question}
+use Rattle.readings.specs.Reading.{numberOf, valuesTaken}
+use Rattle.readings.specs.declared.Reading.{Reading}
+use Rattle.judging.specs.Judge.{judgeOf}
+use Rattle.reader.specs.Read.{valueAt, valuesOn, ReadDone}
+use Rattle.letters.specs.declared.Standing.{Standing}
+use Rattle.letters.specs.Letters.{hearOf}
+use Rattle.certificate.specs.declared.Heard.{Heard}
+use Rattle.certificate.specs.Certificate.{heardAs}
+use Rattle.certificate.specs.Telling.{heardNow}
+
+-- the words at the front of the buffer are the entry's
+pub line-read : (blank bytes : List ℕ) (words : ℕ) → length bytes ≡ 2 * words → words ≤ length blank → take words (sets blank 0 (wordsOf bytes)) ≡ wordsOf bytes
+line-read blank bytes words even fits =
+    let number : length (wordsOf bytes) ≡ words = omega (arith, length-words bytes) in
+    ap (take words) (sets-front (wordsOf bytes) blank (omega (arith, number))) ∙ take-at (wordsOf bytes) (drop (length (wordsOf bytes)) blank) words number
+
+-- the values at the front of the room are those handed out
+pub values-read : (line room : List ℕ) (m : ℕ) → take m (atFront (valuesOn line m) room) ≡ valuesOn line m
+values-read line room m = take-at (valuesOn line m) (drop (length (valuesOn line m)) room) m (length-tabulated (valueAt line m) m 0)
+
+pub heard-is : (s after : Standing) (q : Question) (line line′ room room′ : List ℕ) (reading : Reading) (taken number : ℕ)
+    → line′ ≡ line → length room ≡ 32 → ReadDone q line′ room room′ reading → taken ≡ valuesTaken reading → number ≡ numberOf reading
+    → after ≡ hearOf s q reading (take taken room′) → _≡_ {A = Heard} (record { number = number; standing = after }) (heardNow s (heardAs q line))
+heard-is s after q line line′ room room′ reading taken number same size done count is next =
+    let says : reading ≡ judgeOf q line 32 = done .says ∙ ap₂ (λ (l : List ℕ) (n : ℕ). judgeOf q l n) same size in
+    let m = valuesTaken (judgeOf q line 32) in
+    let many : taken ≡ m = count ∙ ap valuesTaken says in
+    let leaves : room′ ≡ atFront (valuesOn line m) room =
+    done .leaves ∙ ap₂ (λ (l : List ℕ) (n : ℕ). atFront (valuesOn l (valuesTaken (judgeOf q l n))) room) same size in
+    let values : take taken room′ ≡ valuesOn line m = ap₂ take many leaves ∙ values-read line room m in
+    ap₂ (λ (n : ℕ) (t : Standing). record { number = n; standing = t }) (is ∙ ap numberOf says)
+    (next ∙ ap₂ (λ (r : Reading) (v : List ℕ). hearOf s q r v) says values)

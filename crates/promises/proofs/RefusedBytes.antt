@@ -1,0 +1,107 @@
+-- A call of the C side that is turned away has written nothing into lent memory: what is packed beside the number is a multiple of 256, so that
+-- the number in the lowest eight bits is the row's own, and the rest goes by cases as on words.
+use mathlib.Core.Path.{_≡_, refl, ap, _∙_}
+use mathlib.Core.Bool.{Bool, true, false, cond}
+use mathlib.Core.List.{List}
+use Prim.Native.Nat.{ℕ, _*_}
+use native.Mathlib.Omega.{arith}
+use lib.Dec.{eqb}
+use lib.IntN.{ℤ}
+use lib.Ieee.{Float}
+use lib.ListN.{length}
+use borrow.Author.Tests.{ne-eqb}
+use Rattle.ground.specs.Sweep.{tabulated}
+use Rattle.lines.specs.Write.{atFront}
+use Rattle.packing.specs.Words.{bytesOf}
+use Rattle.questions.specs.declared.question.Question as asked
+use Rattle.readings.specs.Reading.{valuesTaken}
+use Rattle.readings.specs.declared.Reading.{Reading}
+use Rattle.readings.specs.declared.Reading.the-variants.{Counted, Written, Values, Refused}
+use Rattle.reader.specs.Read.{valuesOn}
+use Rattle.commands.specs.declared.Issued.{Issued}
+use Rattle.commands.specs.declared.Issued.the-variants.{Words, Question, Room}
+use Rattle.registers.specs.Memory.{fresh}
+use Rattle.certificate.specs.Certificate.{certifiedOf, certifiedNumber}
+use Rattle.certificate.specs.declared.Certified.{Certified}
+use Rattle.certificate.specs.declared.Certified.the-variants as certified
+use Rattle.cells.specs.Cell.{cellOf}
+use Rattle.cells.specs.declared.Range.{Range}
+use Rattle.cells.specs.declared.Range.the-variants.{Unipolar, Bipolar}
+use Rattle.cells.specs.declared.Cell.{Cell}
+use Rattle.cells.specs.declared.Cell.the-variants as cell
+use Rattle.c_reader.specs.ReadBytes.{lineOn, readingOn, packedReading, ReadBytesDone}
+use Rattle.c_commands.specs.CommandBytes.{packedIssued, issuedInto, wordsOut, CommandBytesDone}
+use Rattle.c_cells.specs.CellBytes.{packedCell, microvoltsOr, voltsOr, answerOf, microvoltsLeft, voltsLeft, CellDone}
+use Rattle.c_twin.specs.TwinBytes.{chainIn, stepNumber, PowerBytesDone, StepBytesDone}
+use Rattle.bmc.specs.Exports.{packedCertified, CertificateBytesDone}
+use Rattle.promises.specs.Demand1.{TurnedAway, packedNumber}
+use Rattle.promises.proofs.RefusedWritesNothing.{refused-certificate}
+
+pub refused-read-bytes : (q : asked.Question) (line before after : List ℕ) (r : ℕ) → ReadBytesDone q line before after r
+    → TurnedAway (packedNumber r) → after ≡ before
+unfolding bytesOf
+refused-read-bytes q line before after r done away =
+    done .leaves ∙ ap (λ (m : ℕ). atFront (bytesOf (valuesOn (lineOn line) m)) before) (no-values (readingOn q line before) (done .says))
+  where
+    no-values : (reading : Reading) → r ≡ packedReading reading → valuesTaken reading ≡ 0
+    no-values (Counted n) e = refl
+    no-values Written e = refl
+    no-values (Values m) e = absurd (omega arith)
+    no-values (Refused why) e = refl
+
+pub refused-command-bytes : (q : asked.Question) (before after : List ℕ) (r : ℕ) → CommandBytesDone q before after r
+    → TurnedAway (packedNumber r) → after ≡ before
+unfolding bytesOf
+refused-command-bytes q before after r done away = done .leaves ∙ nothing-out (issuedInto q before) (done .says)
+  where
+    nothing-out : (i : Issued) → r ≡ packedIssued i → atFront (bytesOf (wordsOut i q)) before ≡ before
+    nothing-out (Words n) e = absurd (omega arith)
+    nothing-out Question e = refl
+    nothing-out Room e = refl
+
+pub refused-cell : (c enabled register bipolar : ℕ) (microvolts microvoltsAfter : ℤ) (volts voltsAfter : Float) (r : ℕ)
+    → CellDone c enabled register bipolar microvolts microvoltsAfter volts voltsAfter r → TurnedAway (packedNumber r)
+    → (microvoltsAfter ≡ microvolts) × (voltsAfter ≡ volts)
+unfolding answerOf microvoltsLeft voltsLeft
+refused-cell c enabled register bipolar microvolts microvoltsAfter volts voltsAfter r done away =
+    let by = by-range (eqb bipolar 0) (eqb bipolar 1) (done .says) in (done .microvolts ∙ by .0, done .volts ∙ by .1)
+  where
+    of : Range → Cell
+    of range = cellOf range enabled c register
+
+    by-cell : (x : Cell) → r ≡ packedCell x → (microvoltsOr x microvolts ≡ microvolts) × (voltsOr x volts ≡ volts)
+    by-cell (cell.Measured v) e = absurd (omega arith)
+    by-cell cell.NotMeasured e = (refl, refl)
+    by-cell (cell.Refused why) e = (refl, refl)
+
+    by-range : (unipolar bipolar : Bool) → r ≡ cond unipolar (packedCell (of Unipolar)) (cond bipolar (packedCell (of Bipolar)) 1)
+        → (cond unipolar (microvoltsOr (of Unipolar) microvolts) (cond bipolar (microvoltsOr (of Bipolar) microvolts) microvolts) ≡ microvolts)
+        × (cond unipolar (voltsOr (of Unipolar) volts) (cond bipolar (voltsOr (of Bipolar) volts) volts) ≡ volts)
+    by-range true other e = by-cell (of Unipolar) e
+    by-range false true e = by-cell (of Bipolar) e
+    by-range false false e = (refl, refl)
+
+pub refused-power-bytes : (n : ℕ) (before after : List ℕ) (r : ℕ) → PowerBytesDone n before after r → TurnedAway (packedNumber r) → after ≡ before
+refused-power-bytes n before after r done away = done .leaves ∙ by-test (chainIn n (length before)) (done .says)
+  where
+    by-test : (fits : Bool) → r ≡ cond fits 0 15 → cond fits (bytesOf (tabulated fresh (256 * n) 0)) before ≡ before
+    by-test true e = absurd (omega arith)
+    by-test false e = refl
+
+pub refused-step-bytes : (n k : ℕ) (memory memoryLeft line out outAfter : List ℕ) (r : ℕ) → StepBytesDone n k memory memoryLeft line out outAfter r
+    → TurnedAway (packedNumber r) → (memoryLeft ≡ memory) × (outAfter ≡ out)
+refused-step-bytes n k memory memoryLeft line out outAfter r done away =
+    let number = stepNumber n k (length memory) (length line) (length out) in
+    let not-done : eqb number 0 ≡ false = ne-eqb number 0 (λ (e : number ≡ 0). omega (arith, done .says)) in
+    (done .remembers ∙ simp not-done, done .leaves ∙ simp not-done)
+
+pub refused-certificate-bytes : (file before after : List ℕ) (r : ℕ) → CertificateBytesDone file before after r
+    → TurnedAway (packedNumber r) → after ≡ before
+refused-certificate-bytes file before after r done away =
+    refused-certificate file before after (certifiedOf file before) (record { says = refl; leaves = done .leaves })
+    (own-number (certifiedOf file before) (done .says))
+  where
+    own-number : (c : Certified) → r ≡ packedCertified c → TurnedAway (certifiedNumber c)
+    own-number (certified.Bytes n) e = omega arith
+    own-number certified.File e = omega arith
+    own-number certified.Room e = omega arith

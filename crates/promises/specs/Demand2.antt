@@ -1,0 +1,82 @@
+-- DEMAND 2. Commands go out, and answers are taken or refused, exactly as data sheet 004 and document 01 define; a device holds a setting only
+-- by an accepted read after the write. Claimed of every question, every line, every output and every job file, and of every answer that meets
+-- the contract of `write_command` and of `read`:
+-- a command is written exactly where the question is good and there is room, and then it is the table's command line and nothing else;
+-- an answer is accepted exactly where the question is good, there is room, and the line is the line of a right answer for some values (of a
+-- write, the one answer; of HELLOALL, some count 1..32), and what is handed out is those values, HELLOALL's count being the byte on the line;
+-- a refusal is by the first row of "Turned away" that fails, with its place or byte;
+-- the certificate gives a device a letter exactly where the last write entry whose question is good covers it: S exactly where of the accepted
+-- reads of that register that come after the write and cover the device the latest shows the value written, O exactly where it shows another,
+-- U exactly where there is no such read.
+use mathlib.Core.Path.{_≡_}
+use mathlib.Core.Bool.{true, false}
+use mathlib.Core.List.{List}
+use Prim.Native.Nat.{ℕ, _≤_}
+use lib.ListN.{length}
+use Rattle.lines.specs.Line.{byteAt}
+use Rattle.lines.specs.Write.{atFront}
+use Rattle.questions.specs.Question.{helloAll, goodQuestion, covers}
+use Rattle.questions.specs.Shape.{shapeOf}
+use Rattle.questions.specs.declared.question.Question.{Question}
+use Rattle.commands.specs.Command.{commandLine, CommandPut, issuedNumber}
+use Rattle.commands.specs.declared.Issued.{Issued}
+use Rattle.commands.specs.declared.Issued.the-variants.{Words}
+use Rattle.readings.specs.Reading.{numberOf}
+use Rattle.readings.specs.declared.Reading.{Reading}
+use Rattle.readings.specs.declared.Reading.the-variants.{Counted}
+use Rattle.judging.specs.Judge.{judgeOf}
+use Rattle.reader.specs.Read.{ReadDone}
+use Rattle.acceptance.specs.Answer.{AnswerTo, Sendable, readingOf, handedOut}
+use Rattle.letters.specs.Meaning.{None, goodWrite, Deserves, Given}
+use Rattle.certificate.specs.Certificate.{heardIn, standingOf}
+
+-- when a command is due: the question is good, and its line has room
+pub record CommandDue (q : Question) (before : List ℕ) : Type 0 where
+  pub good : goodQuestion q ≡ true
+  pub room : length (commandLine q) ≤ length before
+
+-- and which: the line of the table's command bytes stands at the front of the output, the rest as it was
+pub record CommandOut (q : Question) (before after : List ℕ) (r : Issued) : Type 0 where
+  pub words : r ≡ Words (length (commandLine q))
+  pub line : after ≡ atFront (commandLine q) before
+
+-- accepted: the reading has no row's number
+abbrev pub Accepted : Reading → Type 0
+Accepted reading = numberOf reading ≡ 0
+
+-- when acceptance is due: the question is good, the values have room, and the line is the line of the right answer for these values
+pub record Due (q : Question) (line before values : List ℕ) : Type 0 where
+  pub good : goodQuestion q ≡ true
+  pub room : shapeOf q .values ≤ length before
+  pub answer : AnswerTo q values line
+
+-- and with which values: the reading is that answer's, and its values stand at the front of the output
+pub record With (q : Question) (values before after : List ℕ) (r : Reading) : Type 0 where
+  pub reading : r ≡ readingOf q values
+  pub output : after ≡ atFront (handedOut q values) before
+
+pub record Demand2 : Type 0 where
+  -- commands: written only where due, and always where due
+  pub command-only-then : (q : Question) (before after : List ℕ) (r : Issued) → CommandPut q before after r
+      → issuedNumber r ≡ 0 → CommandDue q before × CommandOut q before after r
+  pub command-always-then : (q : Question) (before after : List ℕ) (r : Issued) → CommandPut q before after r
+      → CommandDue q before → CommandOut q before after r
+  -- answers: what is accepted was due, and is handed out with the values of that answer,
+  pub only-then : (q : Question) (line before after : List ℕ) (r : Reading) → ReadDone q line before after r
+      → Accepted r → (values : List ℕ) × Due q line before values × With q values before after r
+  -- and where it is due, for any values, it is accepted with those values
+  pub always-then : (q : Question) (line before after : List ℕ) (r : Reading) → ReadDone q line before after r
+      → Sendable q → (values : List ℕ) → Due q line before values → Accepted r × With q values before after r
+  -- HELLOALL's count is the third byte of the line, whatever n the question has
+  pub hello-count : (q : Question) (line before after : List ℕ) (r : Reading) → ReadDone q line before after r
+      → q .kind ≡ helloAll → Accepted r → r ≡ Counted (byteAt line 2)
+  -- rows 1 to 11 in their order, as `judgeOf` has them
+  pub by-rows : (q : Question) (line before after : List ℕ) (r : Reading) → ReadDone q line before after r → r ≡ judgeOf q line (length before)
+  -- command and answer have equal length, and never more than 140 words
+  pub equal-length : (q : Question) → goodQuestion q ≡ true → Sendable q → (values line : List ℕ) → AnswerTo q values line
+      → (length line ≡ length (commandLine q)) × (length line ≤ 140)
+  -- the certificate: the letter that is given is the one that the device deserves, and the one that it deserves is given;
+  pub given-only-then : (file : List ℕ) (a letter : ℕ) → Given (heardIn file) a letter → Deserves (heardIn file) a letter
+  pub given-always-then : (file : List ℕ) (a letter : ℕ) → Deserves (heardIn file) a letter → Given (heardIn file) a letter
+  -- without a good write no device has one
+  pub no-write : (file : List ℕ) → None goodWrite (heardIn file) → (a : ℕ) → covers (standingOf file .write) a ≡ false

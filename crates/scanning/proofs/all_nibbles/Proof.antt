@@ -1,0 +1,33 @@
+-- `all_nibbles` meets its contract: it looks at the places between the ends, of which a line of one word or none has none.
+use mathlib.Core.Path.{_≡_, sym, ap, _∙_}
+use Prim.Native.Nat.{ℕ, _-_}
+use native.Mathlib.Omega.{arith}
+use lib.ListN.{length}
+use Rattle.characters.specs.Nibble.{isNibble}
+use Rattle.scanning.specs.Place.{firstFailing, firstNoNibble, isNowhere, allNibbles}
+use borrow.Author.Needs.{needs}
+use Rattle.scanning.proofs.all_nibbles.Statement.{statement}
+use Rattle.scanning.proofs.all_nibbles.Tie as tie
+
+returns : tie.Need-returns
+unfolding allNibbles firstNoNibble firstFailing
+returns c =
+    let l = c .before .before .args .line .now in
+    let none : length l - 2 ≡ 0 = omega arith in
+    sym (ap (λ (n : ℕ). isNowhere (firstFailing isNibble l 1 n)) none)
+
+sub-all-pass : tie.Need-sub-all-pass
+sub-all-pass c = search needs
+
+all-pass-requires : tie.Need-all-pass-requires
+all-pass-requires c κs = search needs
+
+returns-2 : tie.Need-returns-2
+unfolding allNibbles firstNoNibble
+returns-2 c =
+    let l = c .before .before .before .args .line .now in
+    let between : length l - 1 - 1 ≡ length l - 2 = omega arith in
+    c .all-pass .ensures ∙ ap (λ (n : ℕ). isNowhere (firstFailing isNibble l 1 n)) between
+
+pub all-nibbles-spec : {M : Type 1} → statement M
+all-nibbles-spec = tie.close (tie.spec returns sub-all-pass all-pass-requires returns-2)
