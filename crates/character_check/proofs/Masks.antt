@@ -1,6 +1,6 @@
 -- A character told by a mask and by the number of set bits: where one computed test of the words without high bits says that a mask is the right
 -- one, it decides for each of them.
-use mathlib.Core.Path.{_≡_, refl, sym, ap, _∙_}
+use mathlib.Core.Path.{_≡_, sym, ap, _∙_}
 use mathlib.Core.Bool.{Bool, true, false, _&&_, Bool·beq}
 use mathlib.Core.Logic.{⊎-elim}
 use Prim.Native.Nat.{ℕ, zero, suc, _+_, _-_, _/_, _%_, _^_, _≤_, _<_}
@@ -11,7 +11,7 @@ use lib.Count.{ones, onesIn, ones-step}
 use lib.Dec.{eqb}
 use borrow.Author.Tests.{eq-eqb, ne-eqb}
 use Rattle.ground.specs.Sweep.{every}
-use Rattle.ground.proofs.Test.{below-or-not}
+use Rattle.ground.proofs.Test.{below-or-not, same-truth}
 use Rattle.ground.proofs.Sweep.{swept}
 use Rattle.character_check.specs.Check.{started, stopped, evenParity, isCharacter}
 
@@ -34,14 +34,8 @@ module _ (mask framing : ℕ) where
   by-mask : every told 4096 ≡ true → (w : ℕ) → w < 4096 → isCharacter w ≡ (eqb (bitAnd w mask) framing && eqb (ones w % 2) 0)
   unfolding told
   by-mask all w h =
-      same (isCharacter w) (eqb (bitAnd w mask) framing && eqb (onesIn 12 w % 2) 0) (swept told 4096 all w h)
+      same-truth (isCharacter w) (eqb (bitAnd w mask) framing && eqb (onesIn 12 w % 2) 0) (swept told 4096 all w h)
       ∙ ap (λ (n : ℕ). eqb (bitAnd w mask) framing && eqb (n % 2) 0) (sym (ones-in 12 w h))
-    where
-      same : (t u : Bool) → Bool·beq t u ≡ true → t ≡ u
-      same true true e = refl
-      same true false e = sym e
-      same false true e = e
-      same false false e = refl
 
   pub unframed : (w : ℕ) → (bitAnd w mask ≡ framing → ⊥) → every told 4096 ≡ true → isCharacter w ≡ false
   unframed w other all =

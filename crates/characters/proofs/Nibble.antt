@@ -1,6 +1,6 @@
 -- Laws of nibbles and their words: decoding inverts encoding, and two nibbles' words differ in twice as many bits as the nibbles.
 use mathlib.Core.Path.{_≡_, refl, sym, ap, _∙_}
-use mathlib.Core.Bool.{Bool, true, false, cond, _&&_, not, true≢false}
+use mathlib.Core.Bool.{Bool, true, false, cond, _&&_, Bool·beq, true≢false}
 use Prim.Native.Nat.{ℕ, zero, suc, _+_, _*_, _/_, _^_, _<_}
 use native.Mathlib.Nat.{mod-lt, zero-lt-suc}
 use native.Mathlib.Omega.{arith}
@@ -9,7 +9,7 @@ use lib.Count.{ones, onesIn}
 use lib.Dec.{eqb}
 use borrow.Author.Tests.{eqb-true, eq-eqb}
 use Rattle.ground.specs.Sweep.{every}
-use Rattle.ground.proofs.Test.{and-left, and-right, refuted}
+use Rattle.ground.proofs.Test.{and-left, and-right, same-truth, refuted}
 use Rattle.ground.proofs.Sweep.{swept}
 use Rattle.characters.specs.Character.{bit, parityBit, wordOf, preamble, stop}
 use Rattle.characters.specs.Nibble.{followed, nibbleData, nibbleWord, among, decode, isOne, isNibble, trueBits}
@@ -141,26 +141,16 @@ framedBits w = eqb (bitAnd w 0xE01) 0xC00
 abbrev pub complements : ℕ → Bool
 complements w = eqb (bitAnd (bitXor w (w / 2)) 0xAA) 0xAA
 
-same-test : Bool → Bool → Bool
-same-test true u = u
-same-test false u = not u
-
 masked : ℕ → Bool
-masked w = same-test (framedBits w && complements w) (eqb (nibbleWord (trueBits w)) w)
+masked w = Bool·beq (framedBits w && complements w) (eqb (nibbleWord (trueBits w)) w)
 
 all-masked : every masked 4096 ≡ true
-unfolding masked same-test nibbleWord wordOf
+unfolding masked nibbleWord wordOf
 all-masked = refl
 
 pub by-masks : (w : ℕ) → w < 4096 → isNibble w ≡ (framedBits w && complements w)
-unfolding masked same-test
-by-masks w h = is-nibble-is w ∙ sym (same (framedBits w && complements w) (eqb (nibbleWord (trueBits w)) w) (swept masked 4096 all-masked w h))
-  where
-    same : (t u : Bool) → same-test t u ≡ true → t ≡ u
-    same true true e = refl
-    same true false e = sym e
-    same false true e = e
-    same false false e = refl
+unfolding masked
+by-masks w h = is-nibble-is w ∙ sym (same-truth (framedBits w && complements w) (eqb (nibbleWord (trueBits w)) w) (swept masked 4096 all-masked w h))
 
 pub high-bits : (w : ℕ) → 4095 < w → isNibble w ≡ false
 high-bits w high = refuted (isNibble w) (λ e. absurd (omega (arith, nibble-word w e, nibble-word-lt (trueBits w))))

@@ -2,10 +2,11 @@
 use mathlib.Core.Path.{_≡_}
 use mathlib.Core.List.{List}
 use Prim.Native.Nat.{ℕ, _+_, _-_, _*_}
-use lib.ListN.{length, getD}
+use lib.ListN.{length}
 use Rattle.ground.specs.Sweep.{tabulated}
 use Rattle.lines.specs.Line.{byteAt}
 use Rattle.lines.specs.Write.{atFront}
+use Rattle.packing.specs.Words.{wordAt}
 use Rattle.questions.specs.declared.question.Question.{Question}
 use Rattle.readings.specs.Reading.{valuesTaken}
 use Rattle.judging.specs.Judge.{judgeOf}
@@ -19,9 +20,9 @@ valueAt line m k = byteAt line (2 + 2 * (m - 1 - k)) + 256 * byteAt line (2 + 2 
 abbrev pub valuesOn : List ℕ → (m : ℕ) → List ℕ
 valuesOn line m = tabulated (valueAt line m) m 0
 
--- the same of the bytes that carry the values
+-- the same of the bytes that carry the values, highest address first
 abbrev pub valueIn : List ℕ → (m k : ℕ) → ℕ
-valueIn bytes m k = getD bytes (2 * (m - 1 - k)) 0 + 256 * getD bytes (2 * (m - 1 - k) + 1) 0
+valueIn bytes m k = wordAt bytes (m - 1 - k)
 
 abbrev pub valuesIn : List ℕ → (m : ℕ) → List ℕ
 valuesIn bytes m = tabulated (valueIn bytes m) m 0
