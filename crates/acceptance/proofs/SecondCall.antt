@@ -20,7 +20,7 @@ use Rattle.readings.specs.Reading.{valuesTaken}
 use Rattle.contents.specs.InOrder.{unless}
 use Rattle.judging.specs.Judge.{judgeWords, judgeOf}
 use Rattle.reader.specs.Read.{valueAt, valuesOn, ReadDone}
-use Rattle.parts.specs.Part.{orderOf, carried, partOf}
+use Rattle.parts.specs.Part.{orderOf, valuesFound, partOf}
 use Rattle.readings.specs.declared.Reading.{Reading}
 use Rattle.readings.specs.declared.Refusal.the-variants as refusal
 use Rattle.judging.proofs.Accepted.{some-values}
@@ -45,11 +45,11 @@ part-value line m k =
     (ap₂ (λ (a b : ℕ). trueBits a + 16 * trueBits b) (word 0 _ (lit< tt) p0) (word 1 _ (lit< tt) p1))
     (ap₂ (λ (a b : ℕ). trueBits a + 16 * trueBits b) (word 2 _ (lit< tt) p2) (word 3 _ (lit< tt) p3))
 
-module _ (q : Question) (line : List ℕ) (a : ℕ) (some : 0 < carried q line) (put-to : covers q a ≡ true) where
+module _ (q : Question) (line : List ℕ) (a : ℕ) (some : 0 < valuesFound q line) (put-to : covers q a ≡ true) where
   -- decoded, the part is the device's value among those that `read` hands out
-  pub part-is-the-value : partValue (partOf q line a) ≡ getD (valuesOn line (carried q line)) (orderOf q a) 0
+  pub part-is-the-value : partValue (partOf q line a) ≡ getD (valuesOn line (valuesFound q line)) (orderOf q a) 0
   part-is-the-value =
-      let m = carried q line in
+      let m = valuesFound q line in
       let k = orderOf q a in
       ap partValue (sym (part-there q line a some put-to)) ∙ part-value line m k
       ∙ sym (tabulated-at (valueAt line m) m 0 k (inside q line a some put-to .order) ∙ ap (valueAt line m) (zero-add k))
@@ -57,7 +57,7 @@ module _ (q : Question) (line : List ℕ) (a : ℕ) (some : 0 < carried q line) 
   -- it has four characters
   pub part-has-four : length (partOf q line a) ≡ 4
   part-has-four =
-      let start = 5 + 4 * (carried q line - 1 - orderOf q a) in
+      let start = 5 + 4 * (valuesFound q line - 1 - orderOf q a) in
       let within = inside q line a some put-to .within in
       ap length (sym (part-there q line a some put-to)) ∙ length-take 4 (drop start line) ∙ omega (arith, length-drop start line)
 
@@ -75,10 +75,10 @@ second-call-agrees q line before after r done some a put-to =
     let verdict = judgeOf q line (length before) in
     let positive : 0 < valuesTaken verdict = omega (arith, ap valuesTaken (done .says)) in
     let c = some-values q line (length before) positive in
-    let same : valuesTaken verdict ≡ carried q line = ap valuesTaken (enough-room q line (length before) (c .taken .enough)) in
-    let there : 0 < carried q line = omega arith in
-    let below : orderOf q a < length (valuesOn line (carried q line)) =
-    omega (arith, length-tabulated (valueAt line (carried q line)) (carried q line) 0, inside q line a there put-to .order) in
+    let same : valuesTaken verdict ≡ valuesFound q line = ap valuesTaken (enough-room q line (length before) (c .taken .enough)) in
+    let there : 0 < valuesFound q line = omega arith in
+    let below : orderOf q a < length (valuesOn line (valuesFound q line)) =
+    omega (arith, length-tabulated (valueAt line (valuesFound q line)) (valuesFound q line) 0, inside q line a there put-to .order) in
     ap (λ (l : List ℕ). getD l (orderOf q a) 0) (done .leaves ∙ ap (λ (m : ℕ). atFront (valuesOn line m) before) same)
-    ∙ List·getD-append (valuesOn line (carried q line)) (drop (length (valuesOn line (carried q line))) before) 0 (orderOf q a) below
+    ∙ List·getD-append (valuesOn line (valuesFound q line)) (drop (length (valuesOn line (valuesFound q line))) before) 0 (orderOf q a) below
     ∙ sym (part-is-the-value q line a there put-to)

@@ -5,7 +5,7 @@ use Prim.Native.Nat.{ℕ}
 use lib.Dec.{eqb}
 use lib.IntN.{ℤ}
 use lib.Ieee.{Float}
-use Rattle.cells.specs.Cell.{cellOf, refusalNumber}
+use Rattle.cells.specs.Cell.{cellOf, cellRefusalNumber}
 use Rattle.cells.specs.declared.Range.{Range}
 use Rattle.cells.specs.declared.Range.the-variants.{Unipolar, Bipolar}
 use Rattle.cells.specs.declared.Cell.{Cell}
@@ -15,7 +15,7 @@ use Rattle.cells.specs.declared.Cell.the-variants.{Measured, NotMeasured, Refus
 abbrev pub packedCell : Cell → ℕ
 packedCell (Measured v) = 256
 packedCell NotMeasured = 0
-packedCell (Refused why) = refusalNumber why
+packedCell (Refused why) = cellRefusalNumber why
 
 -- the lent microvolts after the call: the voltage where it was measured, else as they were
 abbrev pub microvoltsOr : Cell → (before : ℤ) → ℤ

@@ -1,2 +1,3 @@
-mod Bytes
+mod Laid
+mod Answered
 pub mod Agree

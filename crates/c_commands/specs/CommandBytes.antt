@@ -6,8 +6,9 @@ use mathlib.Core.List.{List, []}
 use Prim.Native.Nat.{ℕ, _+_, _*_, _/_}
 use lib.Dec.{leb}
 use lib.ListN.{length}
+use lib.Seq.{sets}
 use Rattle.lines.specs.Write.{atFront}
-use Rattle.packing.specs.Words.{bytesOf}
+use Rattle.packing.specs.Words.{asBytes}
 use Rattle.questions.specs.Question.{goodQuestion}
 use Rattle.questions.specs.declared.question.Question.{Question}
 use Rattle.commands.specs.Command.{commandLine, issuedNumber}
@@ -37,7 +38,11 @@ wordsOut (issued.Words n) q = commandLine q
 wordsOut issued.Question q = []
 wordsOut issued.Room q = []
 
+-- some bytes with some words laid from a place on
+abbrev pub laid : List ℕ → (at : ℕ) → (words : List ℕ) → List ℕ
+laid bytes at words = sets bytes at (asBytes words)
+
 -- what `command_bytes` says and leaves
 pub record CommandBytesDone (q : Question) (before after : List ℕ) (r : ℕ) : Type 0 where
   pub says : r ≡ packedIssued (issuedInto q before)
-  pub leaves : after ≡ atFront (bytesOf (wordsOut (issuedInto q before) q)) before
+  pub leaves : after ≡ atFront (asBytes (wordsOut (issuedInto q before) q)) before

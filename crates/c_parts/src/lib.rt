@@ -5,13 +5,12 @@ use parts::part_start;
 use questions::question::Question;
 ghost use mathlib.Core.Path.{_≡_};
 ghost use Prim.Native.Nat.{_≤_};
-ghost use lib.ListN.{length};
 ghost use Rattle.c_parts.specs.PartBytes.{packedStart, partIn};
 
 pub fn part_bytes(q: Question, device: u8, line: &[u8]) -> u32
     ensures { λ r. ⌜ r ≡ partIn q device (now (line .entry)) ⌝ }
 {
-    let mut words = blank_line();
+    let mut words: [u16; 140] = [0; 140];
     let count = take_line(line, &mut words);
     packed_start(part_start(q, &words[..count], device))
 }
@@ -25,10 +24,4 @@ fn packed_start(start: usize) -> u32
         return 0;
     }
     4 + 65536 * start as u32
-}
-
-fn blank_line() -> [u16; 140]
-    ensures { λ r. ⌜ length r ≡ 140 ⌝ }
-{
-    [0; 140]
 }

@@ -13,7 +13,7 @@ use lib.Seq.{sets, take-at, take-append-le}
 use borrow.Author.Tests.{ne-eqb, leb-false}
 use Rattle.ground.proofs.Sweep.{length-tabulated}
 use Rattle.lines.specs.Write.{atFront}
-use Rattle.packing.specs.Words.{wordsOf, bytesOf, lineIn}
+use Rattle.packing.specs.Words.{wordsOf, asBytes, lineIn}
 use Rattle.packing.proofs.Back.{length-words}
 use Rattle.packing.proofs.Taken.{taken-most, packed-front}
 use Rattle.questions.specs.Question.{goodQuestion}
@@ -28,7 +28,7 @@ use Rattle.judging.proofs.Accepted.{values-fit, some-values}
 use Rattle.judging.proofs.Bounds.{place-within, room-enough}
 use Rattle.acceptance.proofs.Lengths.{words-most, words-least}
 use Rattle.reader.specs.Read.{valueAt, valuesOn, ReadDone}
-use Rattle.c_reader.specs.ReadBytes.{lineOn, readingOn, packedReading, Fits, ReadBytesDone}
+use Rattle.c_reader.specs.ReadBytes.{lineOn, readingOn, packedReading, Packable, ReadBytesDone}
 
 -- ---- a line of another length
 
@@ -105,7 +105,7 @@ module _ (q : asked.Question) (line out : List ℕ) (room : ℕ) (is-room : room
       let fit = values-fit q taken-line (length blank) in
       omega (arith, ap valuesTaken (done .says), fit .1)
 
-  pub fits : Fits reading
+  pub fits : Packable reading
   fits = record {
     place = omega (arith, ap placeOf (done .says), place-within q taken-line (length blank), ap length is-line, line-short);
     values = omega (arith, few-values);
@@ -115,7 +115,7 @@ module _ (q : asked.Question) (line out : List ℕ) (room : ℕ) (is-room : room
       line-short = taken-most 140 line
 
   pub read-done : (rest out′ : List ℕ) (r : ℕ) → length part ≡ length blank
-      → out′ ≡ sets out 0 (bytesOf (take (length out / 2) (take (valuesTaken reading) (part ++ rest)))) → r ≡ packedReading reading
+      → out′ ≡ sets out 0 (asBytes (take (length out / 2) (take (valuesTaken reading) (part ++ rest)))) → r ≡ packedReading reading
       → ReadBytesDone q line out out′ r
   read-done rest out′ r kept packs packed =
       let m = valuesTaken reading in
@@ -132,7 +132,7 @@ module _ (q : asked.Question) (line out : List ℕ) (room : ℕ) (is-room : room
       record {
         says = packed ∙ ap packedReading says-so;
         leaves =
-            packs ∙ ap (λ (v : List ℕ). sets out 0 (bytesOf (take (length out / 2) v))) front
+            packs ∙ ap (λ (v : List ℕ). sets out 0 (asBytes (take (length out / 2) v))) front
             ∙ packed-front values out (omega (arith, many, few-values, is-room));
       }
     where

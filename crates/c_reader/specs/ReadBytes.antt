@@ -7,7 +7,7 @@ use Prim.Native.Nat.{ℕ, _+_, _*_, _/_, _%_, _≤_}
 use lib.Dec.{eqb}
 use lib.ListN.{length}
 use Rattle.lines.specs.Write.{atFront}
-use Rattle.packing.specs.Words.{wordsOf, bytesOf}
+use Rattle.packing.specs.Words.{wordsOf, asBytes}
 use Rattle.questions.specs.declared.question.Question.{Question}
 use Rattle.readings.specs.Reading.{numberOf, placeOf, byteOf, countOf, valuesTaken}
 use Rattle.readings.specs.declared.Reading.{Reading}
@@ -28,11 +28,11 @@ abbrev pub packedReading : Reading → ℕ
 packedReading r = numberOf r + 256 * (byteOf r + countOf r) + 65536 * (placeOf r + valuesTaken r)
 
 -- what a packed reading can hold: more than any answer has
-pub record Fits (r : Reading) : Type 0 where
+pub record Packable (r : Reading) : Type 0 where
   pub place : placeOf r ≤ 140
   pub values : valuesTaken r ≤ 32
 
 -- what `read_bytes` says and leaves: the values at the front of the output, two bytes each, low first, and the rest as it was
 pub record ReadBytesDone (q : Question) (line before after : List ℕ) (r : ℕ) : Type 0 where
   pub says : r ≡ packedReading (readingOn q line before)
-  pub leaves : after ≡ atFront (bytesOf (valuesOn (lineOn line) (valuesTaken (readingOn q line before)))) before
+  pub leaves : after ≡ atFront (asBytes (valuesOn (lineOn line) (valuesTaken (readingOn q line before)))) before

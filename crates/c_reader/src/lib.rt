@@ -12,16 +12,15 @@ use readings::place_of;
 use readings::values_taken;
 ghost use mathlib.Core.Path.{_≡_};
 ghost use Prim.Native.Nat.{_/_, min};
-ghost use lib.ListN.{length};
-ghost use Rattle.c_reader.specs.ReadBytes.{packedReading, Fits, ReadBytesDone};
+ghost use Rattle.c_reader.specs.ReadBytes.{packedReading, Packable, ReadBytesDone};
 
 // Takes an answer or turns it away. A read's values go to the front of the lent bytes; turned away, no byte is written.
 pub fn read_bytes(q: Question, line: &[u8], out: &mut [u8]) -> u32
     ensures { λ r. ⌜ ReadBytesDone q (now (line .entry)) (now (out .entry)) (now (out .exit)) r ⌝ }
 {
-    let mut words = blank_line();
+    let mut words: [u16; 140] = [0; 140];
     let count = take_line(line, &mut words);
-    let mut values = blank_values();
+    let mut values: [u16; 32] = [0; 32];
     let room = room_in(out.len());
     let reading = read(q, &words[..count], &mut values[..room]);
     let taken = values_taken(reading);
@@ -39,22 +38,10 @@ fn room_in(bytes: usize) -> usize
 
 // Bits 0 to 7 the number; bits 8 to 15 the byte, or the count; bits 16 to 31 the place, or how many values were written.
 fn packed_reading(reading: Reading) -> u32
-    requires { ⌜ Fits reading ⌝ }
+    requires { ⌜ Packable reading ⌝ }
     ensures { λ r. ⌜ r ≡ packedReading reading ⌝ }
 {
     let byte = byte_of(reading) as u32 + count_of(reading) as u32;
     let place = place_of(reading) as u32 + values_taken(reading) as u32;
     number_of(reading) as u32 + 256 * byte + 65536 * place
-}
-
-fn blank_line() -> [u16; 140]
-    ensures { λ r. ⌜ length r ≡ 140 ⌝ }
-{
-    [0; 140]
-}
-
-fn blank_values() -> [u16; 32]
-    ensures { λ r. ⌜ length r ≡ 32 ⌝ }
-{
-    [0; 32]
 }

@@ -1,2 +1,4 @@
 mod Bytes
+mod PoweredBytes
+mod SteppedBytes
 pub mod Agree

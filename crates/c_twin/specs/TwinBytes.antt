@@ -8,7 +8,7 @@ use lib.Dec.{leb, ltb, eqb}
 use lib.ListN.{length}
 use Rattle.ground.specs.Sweep.{tabulated}
 use Rattle.lines.specs.Write.{atFront}
-use Rattle.packing.specs.Words.{wordsOf, bytesOf}
+use Rattle.packing.specs.Words.{wordsOf, asBytes}
 use Rattle.registers.specs.Memory.{fresh}
 use Rattle.twin.specs.Step.{Standing, standing, hop}
 
@@ -19,7 +19,7 @@ chainIn n bytes = leb 1 n && leb n 32 && eqb bytes (512 * n)
 -- power-on: 15 for TWIN, else 0, and each device's registers at power-on's figures
 pub record PowerBytesDone (n : ℕ) (before after : List ℕ) (r : ℕ) : Type 0 where
   pub says : r ≡ cond (chainIn n (length before)) 0 15
-  pub leaves : after ≡ cond (chainIn n (length before)) (bytesOf (tabulated fresh (256 * n) 0)) before
+  pub leaves : after ≡ cond (chainIn n (length before)) (asBytes (tabulated fresh (256 * n) 0)) before
 
 -- a line of whole words, of 140 at most
 abbrev pub lineFits : (bytes : ℕ) → Bool
@@ -35,12 +35,12 @@ abbrev pub stepped : (n k : ℕ) (memory line : List ℕ) → Standing
 stepped n k memory line = hop n k (standing (wordsOf memory) (wordsOf line))
 
 -- what a step leaves that was not turned away
-pub record Hopped (n k : ℕ) (memory memoryLeft line out outAfter : List ℕ) : Type 0 where
-  pub remembers : memoryLeft ≡ bytesOf (stepped n k memory line .memory)
-  pub leaves : outAfter ≡ atFront (bytesOf (stepped n k memory line .line)) out
+pub record HoppedBytes (n k : ℕ) (memory memoryLeft line out outAfter : List ℕ) : Type 0 where
+  pub remembers : memoryLeft ≡ asBytes (stepped n k memory line .memory)
+  pub leaves : outAfter ≡ atFront (asBytes (stepped n k memory line .line)) out
 
 -- what `step_bytes` says and leaves
 pub record StepBytesDone (n k : ℕ) (memory memoryLeft line out outAfter : List ℕ) (r : ℕ) : Type 0 where
   pub says : r ≡ stepNumber n k (length memory) (length line) (length out)
-  pub remembers : memoryLeft ≡ cond (eqb (stepNumber n k (length memory) (length line) (length out)) 0) (bytesOf (stepped n k memory line .memory)) memory
-  pub leaves : outAfter ≡ cond (eqb (stepNumber n k (length memory) (length line) (length out)) 0) (atFront (bytesOf (stepped n k memory line .line)) out) out
+  pub remembers : memoryLeft ≡ cond (eqb (stepNumber n k (length memory) (length line) (length out)) 0) (asBytes (stepped n k memory line .memory)) memory
+  pub leaves : outAfter ≡ cond (eqb (stepNumber n k (length memory) (length line) (length out)) 0) (atFront (asBytes (stepped n k memory line .line)) out) out

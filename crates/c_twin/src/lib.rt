@@ -9,7 +9,7 @@ ghost use mathlib.Core.Path.{_≡_};
 ghost use mathlib.Core.Bool.{true};
 ghost use Prim.Native.Nat.{_%_, _≤_, _<_};
 ghost use lib.ListN.{length};
-ghost use Rattle.c_twin.specs.TwinBytes.{chainIn, PowerBytesDone, StepBytesDone, Hopped};
+ghost use Rattle.c_twin.specs.TwinBytes.{chainIn, PowerBytesDone, StepBytesDone, HoppedBytes};
 
 // Power-on: the whole memory is filled, or, turned away by row 15, TWIN, left as it was.
 pub fn power_on_bytes(n: u8, memory: &mut [u8]) -> u32
@@ -52,14 +52,14 @@ pub fn step_bytes(n: u8, device: u8, memory: &mut [u8], line: &[u8], out: &mut [
 // The step itself.
 fn hop_bytes(n: u8, device: u8, memory: &mut [u8], line: &[u8], out: &mut [u8])
     requires { ⌜ (chainIn n (length (now memory)) ≡ true) × (device < n) × (length (now line) % 2 ≡ 0) × (length (now line) ≤ 280) × (length (now line) ≤ length (now out)) ⌝ }
-    ensures { λ _. ⌜ Hopped n device (now (memory .entry)) (now (memory .exit)) (now (line .entry)) (now (out .entry)) (now (out .exit)) ⌝ }
+    ensures { λ _. ⌜ HoppedBytes n device (now (memory .entry)) (now (memory .exit)) (now (line .entry)) (now (out .entry)) (now (out .exit)) ⌝ }
 {
     let mut registers = blank_memory();
     let end = 256 * n as usize;
     unpack(memory, &mut registers);
-    let mut words = blank_line();
+    let mut words: [u16; 140] = [0; 140];
     let count = take_line(line, &mut words);
-    let mut handed = blank_line();
+    let mut handed: [u16; 140] = [0; 140];
     step(
         n,
         device,
@@ -88,10 +88,4 @@ fn blank_memory() -> [u16; 8192]
     ensures { λ r. ⌜ length r ≡ 8192 ⌝ }
 {
     [0; 8192]
-}
-
-fn blank_line() -> [u16; 140]
-    ensures { λ r. ⌜ length r ≡ 140 ⌝ }
-{
-    [0; 140]
 }

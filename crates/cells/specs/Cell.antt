@@ -33,11 +33,11 @@ unfoldable pub cellsOf : Range → (mask : ℕ) → List ℕ → List Cell
 cellsOf range mask registers = cellsFrom range mask registers 12 0
 
 -- The paper's numbers ("Turned away"), 0 where nothing is turned away.
-abbrev pub refusalNumber : CellRefusal → ℕ
-refusalNumber Channel = 12
-refusalNumber LowBits = 13
+abbrev pub cellRefusalNumber : CellRefusal → ℕ
+cellRefusalNumber Channel = 12
+cellRefusalNumber LowBits = 13
 
-abbrev pub numberOf : Cell → ℕ
-numberOf (Measured v) = 0
-numberOf NotMeasured = 0
-numberOf (Refused why) = refusalNumber why
+abbrev pub cellNumber : Cell → ℕ
+cellNumber (Measured v) = 0
+cellNumber NotMeasured = 0
+cellNumber (Refused why) = cellRefusalNumber why

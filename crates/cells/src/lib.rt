@@ -3,7 +3,7 @@ ghost use mathlib.Core.Path.{_≡_};
 ghost use Prim.Native.Nat.{_<_, _≤_};
 ghost use lib.IntN.{natAbs};
 ghost use Rattle.cells.specs.Voltage.{stepsOf, microvoltsOf, voltsOf, voltageOf};
-ghost use Rattle.cells.specs.Cell.{enabled, cellOf, cellsOf, refusalNumber, numberOf};
+ghost use Rattle.cells.specs.Cell.{enabled, cellOf, cellsOf, cellRefusalNumber, cellNumber};
 
 // A register's sixteen bits, and a measurement's fourteen: not to be mistaken for one another.
 pub struct Register(pub u16);
@@ -119,7 +119,7 @@ pub fn read_cells(range: Range, mask: u16, registers: [u16; 12]) -> [Cell; 12]
 
 // The paper's number of a refusal.
 pub fn refusal_number(why: CellRefusal) -> u8
-    ensures { λ r. ⌜ r ≡ refusalNumber why ⌝ }
+    ensures { λ r. ⌜ r ≡ cellRefusalNumber why ⌝ }
 {
     match why {
         CellRefusal::Channel => 12,
@@ -129,7 +129,7 @@ pub fn refusal_number(why: CellRefusal) -> u8
 
 // The paper's number of an answer, 0 where nothing is turned away.
 pub fn number_of(cell: Cell) -> u8
-    ensures { λ r. ⌜ r ≡ numberOf cell ⌝ }
+    ensures { λ r. ⌜ r ≡ cellNumber cell ⌝ }
 {
     match cell {
         Cell::Measured(_) => 0,

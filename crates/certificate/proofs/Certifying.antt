@@ -21,7 +21,7 @@ use Rattle.certificate.specs.Certificate as certificate
 use Rattle.certificate.specs.Telling.{certifiedAs}
 
 pub turned-away : (file text : List ℕ) → goodFile file ≡ false → CertificateDone file text text File
-unfolding certifiedOf certificate.textAfter
+unfolding certifiedOf certificate.certificateAfter
 turned-away file text bad = record { says = simp bad; leaves = simp bad }
 
 -- a good file has no more entries than can be printed
@@ -41,7 +41,7 @@ countable file ok =
 
 pub certified : (h : Header) (file text text′ : List ℕ) (r : Printed) → goodFile file ≡ true → h ≡ headerIn file
     → PrintDone (h .n) (numbersOf (heardIn file)) (standingOf file) text text′ r → CertificateDone file text text′ (certifiedAs r)
-unfolding certifiedOf certificate.textAfter certificateOf printedOf textAfter
+unfolding certifiedOf certificate.certificateAfter certificateOf printedOf textAfter
 certified h file text text′ r ok is done =
     let numbers = numbersOf (heardIn file) in
     let few = le-leb (length numbers) 8191 (countable file ok) in

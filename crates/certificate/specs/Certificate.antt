@@ -53,14 +53,14 @@ certifiedOf file text =
     cond (goodFile file) (cond (leb (length (certificateOf file)) (length text)) (Bytes (length (certificateOf file))) Room) File
 
 -- the lent memory after the call
-unfoldable pub textAfter : (file text : List ℕ) → List ℕ
-textAfter file text =
+unfoldable pub certificateAfter : (file text : List ℕ) → List ℕ
+certificateAfter file text =
     cond (goodFile file) (cond (leb (length (certificateOf file)) (length text)) (atFront (certificateOf file) text) text) text
 
 -- what `certify` says and leaves
 pub record CertificateDone (file before after : List ℕ) (r : Certified) : Type 0 where
   pub says : r ≡ certifiedOf file before
-  pub leaves : after ≡ textAfter file before
+  pub leaves : after ≡ certificateAfter file before
 
 -- document 01's number of an answer
 abbrev pub certifiedNumber : Certified → ℕ

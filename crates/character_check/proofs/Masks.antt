@@ -6,13 +6,14 @@ use mathlib.Core.Logic.{⊎-elim}
 use Prim.Native.Nat.{ℕ, zero, suc, _+_, _-_, _/_, _%_, _^_, _≤_, _<_}
 use native.Mathlib.Nat.{pow-suc}
 use native.Mathlib.Omega.{arith}
-use lib.Bits.{bitAnd, and-mask, and-shr}
+use lib.Bits.{bitAnd}
 use lib.Count.{ones, onesIn, ones-step}
 use lib.Dec.{eqb}
 use borrow.Author.Tests.{eq-eqb, ne-eqb}
 use Rattle.ground.specs.Sweep.{every}
 use Rattle.ground.proofs.Test.{below-or-not, same-truth}
 use Rattle.ground.proofs.Sweep.{swept}
+use Rattle.characters.proofs.Masks.{no-high-bits}
 use Rattle.character_check.specs.Check.{started, stopped, evenParity, isCharacter}
 
 -- a word with high bits set is no character
@@ -42,14 +43,7 @@ module _ (mask framing : ℕ) where
       ⊎-elim (λ low. by-mask all w low ∙ ap (λ (t : Bool). t && eqb (ones w % 2) 0) (ne-eqb (bitAnd w mask) framing other))
       (λ high. high-bits w high) (below-or-not w 4096)
 
-  -- a mask over bits 12 to 15, none of which the framing has, leaves no word with high bits
-  no-high-bits : (w : ℕ) → w < 65536 → mask / 2 ^ 12 ≡ 2 ^ 4 - 1 → framing / 2 ^ 12 ≡ 0 → bitAnd w mask ≡ framing → w < 4096
-  no-high-bits w word over none same =
-      let left : w / 2 ^ 12 % 2 ^ 4 ≡ 0 =
-      sym (and-mask (w / 2 ^ 12) 4) ∙ ap (bitAnd (w / 2 ^ 12)) (sym over) ∙ sym (and-shr w mask 12) ∙ ap (λ (x : ℕ). x / 2 ^ 12) same ∙ none in
-      omega arith
-
   pub by-parity : (w : ℕ) → w < 65536 → mask / 2 ^ 12 ≡ 2 ^ 4 - 1 → framing / 2 ^ 12 ≡ 0 → bitAnd w mask ≡ framing → every told 4096 ≡ true
       → isCharacter w ≡ eqb (ones w % 2) 0
   by-parity w word over none same all =
-      by-mask all w (no-high-bits w word over none same) ∙ ap (λ (t : Bool). t && eqb (ones w % 2) 0) (eq-eqb (bitAnd w mask) framing same)
+      by-mask all w (no-high-bits mask framing w word over none same) ∙ ap (λ (t : Bool). t && eqb (ones w % 2) 0) (eq-eqb (bitAnd w mask) framing same)

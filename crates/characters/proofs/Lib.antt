@@ -1,3 +1,4 @@
 pub mod Spread
 pub mod Nibble
+pub mod Masks
 pub mod Agree

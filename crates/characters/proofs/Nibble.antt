@@ -1,15 +1,15 @@
 -- Laws of nibbles and their words: decoding inverts encoding, and two nibbles' words differ in twice as many bits as the nibbles.
 use mathlib.Core.Path.{_≡_, refl, sym, ap, _∙_}
-use mathlib.Core.Bool.{Bool, true, false, cond, _&&_, Bool·beq, true≢false}
-use Prim.Native.Nat.{ℕ, zero, suc, _+_, _*_, _/_, _^_, _<_}
+use mathlib.Core.Bool.{Bool, true, false, cond, _&&_, true≢false}
+use Prim.Native.Nat.{ℕ, zero, suc, _+_, _*_, _/_, _^_, _<_, _≤_}
 use native.Mathlib.Nat.{mod-lt, zero-lt-suc}
 use native.Mathlib.Omega.{arith}
-use lib.Bits.{bitXor, bitAnd}
+use lib.Bits.{bitXor}
 use lib.Count.{ones, onesIn}
 use lib.Dec.{eqb}
 use borrow.Author.Tests.{eqb-true, eq-eqb}
 use Rattle.ground.specs.Sweep.{every}
-use Rattle.ground.proofs.Test.{and-left, and-right, same-truth, refuted}
+use Rattle.ground.proofs.Test.{and-left, and-right, refuted}
 use Rattle.ground.proofs.Sweep.{swept}
 use Rattle.characters.specs.Character.{bit, parityBit, wordOf, preamble, stop}
 use Rattle.characters.specs.Nibble.{followed, nibbleData, nibbleWord, among, decode, isOne, isNibble, trueBits}
@@ -133,24 +133,6 @@ nibble-word-lt n =
     (followed-lt (bit 1 n) (bit-lt 1 n)) (followed-lt (bit 2 n) (bit-lt 2 n)) (followed-lt (bit 3 n) (bit-lt 3 n)))
     (mod-lt (bit 0 eight + bit 1 eight + bit 2 eight + bit 3 eight + bit 4 eight + bit 5 eight + bit 6 eight + bit 7 eight) (zero-lt-suc 1))
 
--- ---- a nibble's word by masks: framed, no parity bit, and each bit followed by its complement
-
-abbrev pub framedBits : ℕ → Bool
-framedBits w = eqb (bitAnd w 0xE01) 0xC00
-
-abbrev pub complements : ℕ → Bool
-complements w = eqb (bitAnd (bitXor w (w / 2)) 0xAA) 0xAA
-
-masked : ℕ → Bool
-masked w = Bool·beq (framedBits w && complements w) (eqb (nibbleWord (trueBits w)) w)
-
-all-masked : every masked 4096 ≡ true
-unfolding masked nibbleWord wordOf
-all-masked = refl
-
-pub by-masks : (w : ℕ) → w < 4096 → isNibble w ≡ (framedBits w && complements w)
-unfolding masked
-by-masks w h = is-nibble-is w ∙ sym (same-truth (framedBits w && complements w) (eqb (nibbleWord (trueBits w)) w) (swept masked 4096 all-masked w h))
-
-pub high-bits : (w : ℕ) → 4095 < w → isNibble w ≡ false
+-- no word with high bits is a nibble's
+pub high-bits : (w : ℕ) → 4096 ≤ w → isNibble w ≡ false
 high-bits w high = refuted (isNibble w) (λ e. absurd (omega (arith, nibble-word w e, nibble-word-lt (trueBits w))))

@@ -33,14 +33,12 @@ pub fn true_bits(w: u16) -> u8
     ((pairs | pairs / 4) & 0xF) as u8
 }
 
-// Whether a word is the word of a nibble: framed, with no parity bit (four of its data bits are set), and each bit followed by its complement.
+// Whether a word is the word of a nibble: framed, with no parity bit (four of its data bits are set) and no high bits, and each bit followed by
+// its complement.
 pub fn is_nibble(w: u16) -> bool
     ensures { λ r. ⌜ r ≡ isNibble w ⌝ }
 {
-    if 4095 < w {
-        return false;
-    }
-    if w & 0xE01 != 0xC00 {
+    if w & 0xFE01 != 0xC00 {
         return false;
     }
     (w ^ (w / 2)) & 0xAA == 0xAA

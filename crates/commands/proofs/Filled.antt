@@ -34,12 +34,12 @@ stored-pair l at a b c d e f g h =
 
 -- ---- one more pair
 
-fill-next : (k : ℕ) → fillPairs (suc k) ≡ fillPairs k ++ fillPairs 1
+pub fill-next : (k : ℕ) → fillPairs (suc k) ≡ fillPairs k ++ fillPairs 1
 unfolding fillPairs
 fill-next zero = refl
 fill-next (suc k) = ap (λ (l : List ℕ). 0xC2 ∷ 0xD3 ∷ l) (fill-next k)
 
-length-fill : (k : ℕ) → length (charactersOf (fillPairs k)) ≡ 4 * k
+pub length-fill : (k : ℕ) → length (charactersOf (fillPairs k)) ≡ 4 * k
 length-fill k = omega (arith, length-characters (fillPairs k), length-pairs k)
 
 pub pairs-next : (l : List ℕ) (start k : ℕ)

@@ -1,4 +1,5 @@
 pub mod Writing
+pub mod Taken
 pub mod Filled
 pub mod Issuing
 pub mod Agree

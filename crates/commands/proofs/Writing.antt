@@ -1,60 +1,20 @@
--- The bytes that the command writer lays out are the command's: a write's six places, and a read's five before its fill pairs.
-use mathlib.Core.Path.{_≡_, refl, sym, ap, ap₂, _∙_}
+-- The whole call: what the command writer says and leaves, turned away and not.
+use mathlib.Core.Path.{_≡_, refl, sym, ap, _∙_}
 use mathlib.Core.Bool.{Bool, true, false, cond}
-use mathlib.Core.List.{List, [], _∷_}
-use Prim.Native.Nat.{ℕ, zero, suc, _+_, _/_, _%_, _≤_, _<_}
-use native.Mathlib.Omega.{arith}
+use mathlib.Core.List.{List}
+use Prim.Native.Nat.{ℕ}
 use lib.Dec.{leb}
-use lib.ListN.{length, take}
-use Rattle.pec.specs.Pec.{pecOf}
+use lib.ListN.{length}
 use Rattle.lines.specs.Write.{atFront}
 use Rattle.writing.specs.PutLine.{putOf, outOf, LinePut}
 use Rattle.writing.specs.declared.Put.{Put}
 use Rattle.writing.specs.declared.Put.the-variants as put
 use Rattle.questions.specs.Question.{goodQuestion}
-use Rattle.questions.specs.Bytes.{lowHigh, aliveByte, sealed, commandBytes}
+use Rattle.questions.specs.Bytes.{commandBytes}
 use Rattle.commands.specs.Command.{commandLine, issuedOf, commandOut, CommandPut, issuedAs}
 use Rattle.commands.specs.declared.Issued.{Issued}
 use Rattle.commands.specs.declared.Issued.the-variants as issued
 use Rattle.questions.specs.declared.question.Question.{Question}
-use Rattle.questions.proofs.Bytes.{alive-on, alive-off}
-
-module _ (q : Question) (first : ℕ) where
-  -- a write: the first five or six of six places
-  pub write-taken : (check : ℕ) → q .alive ≤ 1 → q .seed < 256 → check ≡ pecOf (first ∷ q .reg ∷ lowHigh (q .value))
-      → take (5 + q .alive) (first ∷ q .reg ∷ q .value % 256 ∷ q .value / 256 ∷ check ∷ q .seed ∷ []) ≡ sealed q 0 (first ∷ q .reg ∷ lowHigh (q .value))
-  unfolding sealed
-  write-taken check h s e = by-alive (q .alive) refl
-    where
-      front : ℕ → List ℕ → List ℕ
-      front check l = first ∷ q .reg ∷ q .value % 256 ∷ q .value / 256 ∷ check ∷ l
-
-      by-alive : (a : ℕ) → q .alive ≡ a
-          → take (5 + q .alive) (front check (q .seed ∷ [])) ≡ front (pecOf (first ∷ q .reg ∷ lowHigh (q .value))) (aliveByte q 0)
-      by-alive zero a =
-          ap (λ (k : ℕ). take (5 + k) (front check (q .seed ∷ []))) a ∙ ap₂ front e (sym (alive-off q 0 a))
-      by-alive (suc zero) a =
-          ap (λ (k : ℕ). take (5 + k) (front check (q .seed ∷ []))) a ∙ ap₂ front e (sym (alive-on q a s))
-      by-alive (suc (suc k)) a = absurd (omega arith)
-
-  -- a read: the first four or five of five places
-  pub read-taken : (check : ℕ) → q .alive ≤ 1 → q .seed < 256 → check ≡ pecOf (first ∷ q .reg ∷ 0 ∷ [])
-      → take (4 + q .alive) (first ∷ q .reg ∷ 0 ∷ check ∷ q .seed ∷ []) ≡ sealed q 0 (first ∷ q .reg ∷ 0 ∷ [])
-  unfolding sealed
-  read-taken check h s e = by-alive (q .alive) refl
-    where
-      front : ℕ → List ℕ → List ℕ
-      front check l = first ∷ q .reg ∷ 0 ∷ check ∷ l
-
-      by-alive : (a : ℕ) → q .alive ≡ a
-          → take (4 + q .alive) (front check (q .seed ∷ [])) ≡ front (pecOf (first ∷ q .reg ∷ 0 ∷ [])) (aliveByte q 0)
-      by-alive zero a =
-          ap (λ (k : ℕ). take (4 + k) (front check (q .seed ∷ []))) a ∙ ap₂ front e (sym (alive-off q 0 a))
-      by-alive (suc zero) a =
-          ap (λ (k : ℕ). take (4 + k) (front check (q .seed ∷ []))) a ∙ ap₂ front e (sym (alive-on q a s))
-      by-alive (suc (suc k)) a = absurd (omega arith)
-
--- ---- the whole call
 
 issued-either : (t : Bool) (n : ℕ) → issuedAs (cond t (put.Words n) put.NoRoom) ≡ cond t (issued.Words n) issued.Room
 issued-either true n = refl

@@ -11,22 +11,27 @@ use questions::question::shape_of;
 use writing::Put;
 use writing::put_line;
 ghost use mathlib.Core.Path.{_≡_};
-ghost use mathlib.Core.Bool.{true};
-ghost use mathlib.Core.List.{_∷_, [], _++_};
+ghost use mathlib.Core.List.{_++_};
 ghost use Prim.Native.Nat.{_+_, _*_, _≤_};
 ghost use lib.ListN.{length};
 ghost use lib.Seq.{sets};
 ghost use Rattle.lines.specs.Line.{charactersOf};
 ghost use Rattle.writing.specs.PutLine.{LinePut};
-ghost use Rattle.questions.specs.Question.{goodQuestion};
-ghost use Rattle.questions.specs.Bytes.{commandBytes, sealed, lowHigh, fillPairs};
+ghost use Rattle.questions.specs.Bytes.{fillPairs};
 ghost use Rattle.commands.specs.Command.{CommandPut, issuedNumber, issuedAs};
+ghost use Rattle.commands.specs.Head.{headOf, writeHead, readHead};
 
 // How many words the command has, or which row turned the call away.
 pub enum Issued {
     Words(usize),
     Question,
     Room,
+}
+
+// The bytes of a command before its fill pairs, at the front of six places, and how many they are.
+pub struct Head {
+    pub bytes: [u8; 6],
+    pub count: usize,
 }
 
 // The command's line at the front of the lent words, the rest as it was; turned away, nothing is written.
@@ -36,7 +41,56 @@ pub fn write_command(q: Question, out: &mut [u16]) -> Issued
     if !is_good(q) {
         return Issued::Question;
     }
-    as_issued(put_command(q, out))
+    let head = head_of(q);
+    let bytes = head.bytes;
+    let count = head.count;
+    let pairs = shape_of(q).values;
+    as_issued(put_filled(&bytes[..count], pairs, out))
+}
+
+// What stands before the fill pairs, of any question; the alive byte's place is counted where the bench has it on.
+pub fn head_of(q: Question) -> Head
+    ensures { λ r. ⌜ r ≡ headOf q ⌝ }
+{
+    let s = shape_of(q);
+    let first = (s.first % 256) as u8;
+    let kind = q.kind;
+    if kind == HELLOALL {
+        return Head {
+            bytes: [first, 0, 0, 0, 0, 0],
+            count: 3,
+        };
+    }
+    if kind <= WRITEDEVICE {
+        return write_head(first, q);
+    }
+    read_head(first, q)
+}
+
+fn write_head(first: u8, q: Question) -> Head
+    ensures { λ r. ⌜ r ≡ writeHead first q ⌝ }
+{
+    let reg = q.reg;
+    let low = (q.value % 256) as u8;
+    let high = (q.value / 256) as u8;
+    let check = pec(&[first, reg, low, high]);
+    let seed = q.seed;
+    Head {
+        bytes: [first, reg, low, high, check, seed],
+        count: 5 + q.alive as usize,
+    }
+}
+
+fn read_head(first: u8, q: Question) -> Head
+    ensures { λ r. ⌜ r ≡ readHead first q ⌝ }
+{
+    let reg = q.reg;
+    let check = pec(&[first, reg, 0]);
+    let seed = q.seed;
+    Head {
+        bytes: [first, reg, 0, check, seed, 0],
+        count: 4 + q.alive as usize,
+    }
 }
 
 // Document 01's number of an answer: 0 where the command was written.
@@ -59,53 +113,9 @@ fn as_issued(put: Put) -> Issued
     }
 }
 
-fn put_command(q: Question, out: &mut [u16]) -> Put
-    requires { ⌜ goodQuestion q ≡ true ⌝ }
-    ensures { λ r. ⌜ LinePut (commandBytes q) (now (out .entry)) (now (out .exit)) r ⌝ }
-{
-    let s = shape_of(q);
-    let first = (s.first % 256) as u8;
-    let kind = q.kind;
-    if kind == HELLOALL {
-        return put_line(&[first, 0, 0], out);
-    }
-    if kind <= WRITEDEVICE {
-        return put_write(first, q, out);
-    }
-    let pairs = s.values;
-    put_read(first, q, pairs, out)
-}
-
-fn put_write(first: u8, q: Question, out: &mut [u16]) -> Put
-    requires { ⌜ q .alive ≤ 1 ⌝ }
-    ensures { λ r. ⌜ LinePut (sealed q 0 (first ∷ q .reg ∷ lowHigh (q .value))) (now (out .entry)) (now (out .exit)) r ⌝ }
-{
-    let reg = q.reg;
-    let low = (q.value % 256) as u8;
-    let high = (q.value / 256) as u8;
-    let check = pec(&[first, reg, low, high]);
-    let seed = q.seed;
-    let bytes = [first, reg, low, high, check, seed];
-    let end = 5 + q.alive as usize;
-    put_line(&bytes[..end], out)
-}
-
-// A read's command: what stands before the fill pairs, and the pairs.
-fn put_read(first: u8, q: Question, pairs: usize, out: &mut [u16]) -> Put
-    requires { ⌜ (q .alive ≤ 1) × (pairs ≤ 32) ⌝ }
-    ensures { λ r. ⌜ LinePut (sealed q 0 (first ∷ q .reg ∷ 0 ∷ []) ++ fillPairs pairs) (now (out .entry)) (now (out .exit)) r ⌝ }
-{
-    let reg = q.reg;
-    let check = pec(&[first, reg, 0]);
-    let seed = q.seed;
-    let head = [first, reg, 0, check, seed];
-    let end = 4 + q.alive as usize;
-    put_filled(&head[..end], pairs, out)
-}
-
 // The line of some bytes with fill pairs behind them: the line of the bytes alone, and the pairs from where it has its stop character on.
 fn put_filled(head: &[u8], pairs: usize, out: &mut [u16]) -> Put
-    requires { ⌜ (length (now head) ≤ 5) × (pairs ≤ 32) ⌝ }
+    requires { ⌜ (length (now head) ≤ 6) × (pairs ≤ 32) ⌝ }
     ensures { λ r. ⌜ LinePut (now (head .entry) ++ fillPairs pairs) (now (out .entry)) (now (out .exit)) r ⌝ }
 {
     let start = 2 * head.len() + 1;

@@ -9,6 +9,7 @@ use readings::Reading;
 use readings::Refusal;
 use std::num::wrapping_add_u8;
 ghost use mathlib.Core.Path.{_≡_};
+ghost use Rattle.questions.specs.Shape.{shapeOf};
 ghost use Rattle.contents.specs.Rows.{echoed, valueEchoed, pecRight, aliveRight, checkByte, settled, settledCount};
 ghost use Rattle.contents.specs.InOrder.{judgeBytes};
 
@@ -26,11 +27,10 @@ fn value_echoes(q: Question, line: &[u16]) -> bool
 }
 
 // Row 7, ECHO: the first and second byte, and a write's value, are what was asked.
-fn echoes(q: Question, line: &[u16]) -> bool
+fn echoes(q: Question, first: u16, line: &[u16]) -> bool
+    requires { ⌜ first ≡ shapeOf q .first ⌝ }
     ensures { λ r. ⌜ r ≡ echoed q (now (line .entry)) ⌝ }
 {
-    let s = shape_of(q);
-    let first = s.first;
     if wide(byte_at(line, 0)) != first {
         return false;
     }
@@ -56,19 +56,19 @@ fn wide(b: u8) -> u16
 }
 
 // Row 8, PEC.
-fn pec_is_right(q: Question, line: &[u16]) -> bool
+fn pec_is_right(q: Question, covered: usize, line: &[u16]) -> bool
+    requires { ⌜ covered ≡ shapeOf q .covered ⌝ }
     ensures { λ r. ⌜ r ≡ pecRight q (now (line .entry)) ⌝ }
 {
     if q.kind == HELLOALL {
         return true;
     }
-    let s = shape_of(q);
-    let covered = s.covered;
     byte_at(line, covered) == pec_over(line, 0, covered)
 }
 
 // Row 9, ALIVE: the seed and one for each device that acts, and after FFh comes 00h.
-fn alive_is_right(q: Question, line: &[u16]) -> bool
+fn alive_is_right(q: Question, covered: usize, acting: u8, line: &[u16]) -> bool
+    requires { ⌜ (covered ≡ shapeOf q .covered) × (acting ≡ shapeOf q .acting) ⌝ }
     ensures { λ r. ⌜ r ≡ aliveRight q (now (line .entry)) ⌝ }
 {
     if q.kind == HELLOALL {
@@ -77,27 +77,24 @@ fn alive_is_right(q: Question, line: &[u16]) -> bool
     if q.alive != 1 {
         return true;
     }
-    let s = shape_of(q);
-    let covered = s.covered;
     let seed = q.seed;
-    let acting = s.acting;
     byte_at(line, covered + 1) == wrapping_add_u8(seed, acting)
 }
 
 // The check byte of a read; 0 of the other kinds, which have none.
-fn check_byte(q: Question, line: &[u16]) -> u8
+fn check_byte(q: Question, covered: usize, line: &[u16]) -> u8
+    requires { ⌜ covered ≡ shapeOf q .covered ⌝ }
     ensures { λ r. ⌜ r ≡ checkByte q (now (line .entry)) ⌝ }
 {
     if q.kind <= WRITEDEVICE {
         return 0;
     }
-    let s = shape_of(q);
-    let covered = s.covered;
     byte_at(line, covered - 1)
 }
 
 // Row 11, COUNT, and what is taken where it passes.
-fn settle(q: Question, line: &[u16]) -> Reading
+fn settle(q: Question, values: usize, line: &[u16]) -> Reading
+    requires { ⌜ values ≡ shapeOf q .values ⌝ }
     ensures { λ r. ⌜ r ≡ settled q (now (line .entry)) ⌝ }
 {
     let kind = q.kind;
@@ -107,8 +104,7 @@ fn settle(q: Question, line: &[u16]) -> Reading
     if kind <= WRITEDEVICE {
         return Reading::Written;
     }
-    let s = shape_of(q);
-    Reading::Values(s.values)
+    Reading::Values(values)
 }
 
 fn settle_count(count: u8) -> Reading
@@ -127,18 +123,23 @@ fn settle_count(count: u8) -> Reading
 pub fn judge_bytes(q: Question, line: &[u16]) -> Reading
     ensures { λ r. ⌜ r ≡ judgeBytes q (now (line .entry)) ⌝ }
 {
-    if !echoes(q, line) {
+    let s = shape_of(q);
+    let first = s.first;
+    let covered = s.covered;
+    let acting = s.acting;
+    let values = s.values;
+    if !echoes(q, first, line) {
         return Reading::Refused(Refusal::Echo);
     }
-    if !pec_is_right(q, line) {
+    if !pec_is_right(q, covered, line) {
         return Reading::Refused(Refusal::Pec);
     }
-    if !alive_is_right(q, line) {
+    if !alive_is_right(q, covered, acting, line) {
         return Reading::Refused(Refusal::Alive);
     }
-    let check = check_byte(q, line);
+    let check = check_byte(q, covered, line);
     if check != 0 {
         return Reading::Refused(Refusal::Check(check));
     }
-    settle(q, line)
+    settle(q, values, line)
 }

@@ -11,7 +11,7 @@ use borrow.Author.Tests.{le-leb}
 use Rattle.ground.proofs.Test.{below-or-not}
 use Rattle.ground.proofs.Lists.{tabulated-front}
 use Rattle.remainder.specs.Turned.{Bytes}
-use Rattle.packing.specs.Words.{wordsOf, bytesOf}
+use Rattle.packing.specs.Words.{wordsOf, asBytes}
 use Rattle.packing.proofs.Back.{length-bytes, words-back, bytes-back, words-wide}
 use Rattle.jobs.specs.declared.Header.{Header}
 use Rattle.jobs.specs.Format.{Entry, entryBytes}
@@ -36,8 +36,8 @@ module _ (e : Entry) (fits : Fits e) (rest : List ℕ) where
   pub entry-back : entryIn bytes ≡ e
   entry-back =
       let value : e .value % 256 + 256 * (e .value / 256) ≡ e .value = omega arith in
-      let many : 2 * wordsIn bytes ≡ length (bytesOf (e .words)) = omega (arith, says-words, length-bytes (e .words)) in
-      let part : take (2 * wordsIn bytes) (bytesOf (e .words) ++ rest) ≡ bytesOf (e .words) = take-at (bytesOf (e .words)) rest (2 * wordsIn bytes) (sym many) in
+      let many : 2 * wordsIn bytes ≡ length (asBytes (e .words)) = omega (arith, says-words, length-bytes (e .words)) in
+      let part : take (2 * wordsIn bytes) (asBytes (e .words) ++ rest) ≡ asBytes (e .words) = take-at (asBytes (e .words)) rest (2 * wordsIn bytes) (sym many) in
       ap₂ (λ (v : ℕ) (w : List ℕ). record { kind = e .kind; reg = e .reg; value = v; device = e .device; seed = e .seed; words = w })
       value (ap wordsOf part ∙ words-back (e .words) (fits .words))
 
@@ -92,11 +92,11 @@ module _ (front : List ℕ) (small : Bytes front) (whole : sizeIn front ≤ leng
       let v1 : e .value / 256 ≡ getD front 3 0 = omega arith in
       let n0 : length (e .words) % 256 ≡ getD front 6 0 = omega (arith, number) in
       let n1 : length (e .words) / 256 ≡ getD front 7 0 = omega (arith, number) in
-      let tail : bytesOf (e .words) ++ drop (sizeIn front) front ≡ drop 8 front =
+      let tail : asBytes (e .words) ++ drop (sizeIn front) front ≡ drop 8 front =
       ap₂ (λ (x y : List ℕ). x ++ y) (bytes-back answer (wordsIn front) answer-length answer-bytes) (sym (drop-drop (2 * wordsIn front) 8 front)) ∙ take-append-drop (2 * wordsIn front) (drop 8 front) in
       let made : ℕ → ℕ → ℕ → ℕ → List ℕ → List ℕ =
       λ a b c d rest. getD front 0 0 ∷ getD front 1 0 ∷ a ∷ b ∷ getD front 4 0 ∷ getD front 5 0 ∷ c ∷ d ∷ rest in
-      ap₂ (λ (a b : ℕ). made a b (length (e .words) % 256) (length (e .words) / 256) (bytesOf (e .words) ++ drop (sizeIn front) front)) v0 v1
-      ∙ ap₂ (λ (c d : ℕ). made (getD front 2 0) (getD front 3 0) c d (bytesOf (e .words) ++ drop (sizeIn front) front)) n0 n1
+      ap₂ (λ (a b : ℕ). made a b (length (e .words) % 256) (length (e .words) / 256) (asBytes (e .words) ++ drop (sizeIn front) front)) v0 v1
+      ∙ ap₂ (λ (c d : ℕ). made (getD front 2 0) (getD front 3 0) c d (asBytes (e .words) ++ drop (sizeIn front) front)) n0 n1
       ∙ ap (made (getD front 2 0) (getD front 3 0) (getD front 6 0) (getD front 7 0)) tail
       ∙ sym (tabulated-front 8 front (omega arith))

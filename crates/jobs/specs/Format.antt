@@ -3,7 +3,7 @@
 use mathlib.Core.List.{List, [], _∷_, _++_}
 use Prim.Native.Nat.{ℕ, _/_, _%_}
 use lib.ListN.{length}
-use Rattle.packing.specs.Words.{bytesOf}
+use Rattle.packing.specs.Words.{asBytes}
 use Rattle.questions.specs.declared.question.Question.{Question}
 use Rattle.jobs.specs.declared.Header.{Header}
 
@@ -24,7 +24,7 @@ headerBytes h = 0x42 ∷ 0x4D ∷ 0x43 ∷ 1 ∷ 0 ∷ h .n ∷ h .alive ∷ []
 abbrev pub entryBytes : Entry → List ℕ
 entryBytes e =
     e .kind ∷ e .reg ∷ (e .value % 256) ∷ (e .value / 256) ∷ e .device ∷ e .seed
-    ∷ (length (e .words) % 256) ∷ (length (e .words) / 256) ∷ bytesOf (e .words)
+    ∷ (length (e .words) % 256) ∷ (length (e .words) / 256) ∷ asBytes (e .words)
 
 unfoldable pub entriesBytes : List Entry → List ℕ
 entriesBytes [] = []

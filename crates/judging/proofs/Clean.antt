@@ -1,6 +1,6 @@
--- A clean line passes rows 4 to 6: preamble, nibbles and stop are characters all.
-use mathlib.Core.Path.{_≡_, sym, ap, _∙_}
-use mathlib.Core.Bool.{true}
+-- A clean line passes rows 4 to 6, since preamble, nibbles and stop are characters all; any other line is turned away by one of them.
+use mathlib.Core.Path.{_≡_, refl, sym, ap, _∙_}
+use mathlib.Core.Bool.{Bool, true, false, _&&_, true≢false}
 use mathlib.Core.Logic.{⊎-elim}
 use mathlib.Core.List.{List}
 use Prim.Native.Nat.{ℕ, _+_, _-_, _<_, _≤_}
@@ -11,19 +11,21 @@ use lib.ListN.{length, getD}
 use borrow.Author.Tests.{eqb-true}
 use Rattle.ground.proofs.Test.{and-left, and-right, below-or-not}
 use Rattle.characters.specs.Character.{preamble, stop}
-use Rattle.characters.specs.Nibble.{isNibble, trueBits}
-use Rattle.characters.proofs.Nibble.{nibble-word, true-bits-lt}
+use Rattle.characters.specs.Nibble.{isNibble}
 use Rattle.character_check.specs.Check.{isCharacter}
-use Rattle.character_check.proofs.Pass.{preamble-character, stop-character, nibble-character}
-use Rattle.scanning.specs.Place.{firstNoCharacter, firstNoNibble}
+use Rattle.character_check.proofs.Pass.{preamble-character, stop-character, nibble-is-character}
+use Rattle.scanning.specs.Place.{firstNoCharacter, firstNoNibble, allNibbles}
 use Rattle.scanning.specs.Frame.{framed}
-use Rattle.scanning.specs.declared.Place.the-variants.{Nowhere}
-use Rattle.scanning.proofs.FirstPlace.{nowhere-passes, passes-nowhere, nibbles-nowhere}
+use Rattle.scanning.specs.declared.Place.{Place}
+use Rattle.scanning.specs.declared.Place.the-variants.{At, Nowhere}
+use Rattle.scanning.proofs.FirstPlace.{nowhere-passes, passes-nowhere, nibbles-nowhere, nowhere-nibbles}
 use Rattle.questions.specs.declared.question.Question.{Question}
-use Rattle.contents.specs.InOrder.{judgeBytes}
+use Rattle.readings.specs.declared.Refusal.the-variants.{Character, Frame, Manchester}
+use Rattle.readings.specs.declared.Reading.the-variants.{Refused}
+use Rattle.contents.specs.InOrder.{unless, judgeBytes}
 use Rattle.contents.proofs.Unless.{goes-on}
-use Rattle.judging.specs.Judge.{judgeWords}
-use Rattle.judging.specs.Clean.{isClean}
+use Rattle.judging.specs.Judge.{unlessAt, judgeWords}
+use Rattle.judging.specs.Clean.{isClean, spoiled}
 use Rattle.judging.proofs.UnlessAt.{no-place}
 
 module _ (line : List ℕ) (clean : isClean line ≡ true) where
@@ -52,9 +54,7 @@ module _ (line : List ℕ) (clean : isClean line ≡ true) where
       ⊎-elim
       (λ (start : j ≡ 0). ap (λ (k : ℕ). isCharacter (getD line k 0)) start ∙ ap isCharacter first ∙ preamble-character)
       (λ (later : 1 ≤ j). ⊎-elim
-      (λ (middle : j < 1 + (length line - 2)).
-      let w = getD line j 0 in
-      ap isCharacter (nibble-word w (between j later middle)) ∙ nibble-character (trueBits w) (true-bits-lt w))
+      (λ (middle : j < 1 + (length line - 2)). nibble-is-character (getD line j 0) (between j later middle))
       (λ (end : 1 + (length line - 2) ≤ j).
       let is : j ≡ length line - 1 = omega arith in
       ap (λ (k : ℕ). isCharacter (getD line k 0)) is ∙ ap isCharacter last ∙ stop-character)
@@ -68,3 +68,16 @@ module _ (line : List ℕ) (clean : isClean line ≡ true) where
   pub clean-judged : (q : Question) → judgeBytes q line ≡ judgeWords q line
   unfolding judgeWords
   clean-judged q = sym (no-place _ _ _ characters ∙ goes-on _ _ _ frame ∙ no-place _ _ _ nibbles)
+
+pub spoiled-judged : (q : Question) (line : List ℕ) → isClean line ≡ false → spoiled line ≡ judgeWords q line
+unfolding isClean judgeWords
+spoiled-judged q line e = ap (unlessAt (firstNoCharacter line) Character) (by-frame (framed line) e)
+  where
+    by-place : (p : Place) → firstNoNibble line ≡ p → allNibbles line ≡ false → unlessAt p Manchester (Refused Frame) ≡ unlessAt p Manchester (judgeBytes q line)
+    by-place (At i) is some = refl
+    by-place Nowhere is some = absurd (true≢false (sym (nowhere-nibbles line is) ∙ some))
+
+    by-frame : (t : Bool) → (t && allNibbles line) ≡ false
+        → unless t Frame (unlessAt (firstNoNibble line) Manchester (Refused Frame)) ≡ unless t Frame (unlessAt (firstNoNibble line) Manchester (judgeBytes q line))
+    by-frame true some = by-place (firstNoNibble line) refl some
+    by-frame false some = refl

@@ -12,7 +12,7 @@ use scanning::first_no_nibble;
 use scanning::is_framed;
 ghost use mathlib.Core.Path.{_≡_};
 ghost use Rattle.judging.specs.Judge.{judgeWords, judgeOf};
-ghost use Rattle.judging.specs.Clean.{isClean};
+ghost use Rattle.judging.specs.Clean.{isClean, spoiled};
 
 // Rows 4 to 6, then the rest. A nibble is a character: a line that is framed and has nibbles between needs no other look.
 fn judge_words(q: Question, line: &[u16]) -> Reading
@@ -21,7 +21,7 @@ fn judge_words(q: Question, line: &[u16]) -> Reading
     if is_clean(line) {
         return judge_bytes(q, line);
     }
-    judge_in_order(q, line)
+    judge_spoiled(line)
 }
 
 fn is_clean(line: &[u16]) -> bool
@@ -33,9 +33,10 @@ fn is_clean(line: &[u16]) -> bool
     all_nibbles(line)
 }
 
-// Each row over the whole line before the next.
-fn judge_in_order(q: Question, line: &[u16]) -> Reading
-    ensures { λ r. ⌜ r ≡ judgeWords q (now (line .entry)) ⌝ }
+// Which of rows 4 to 6 turns away a line that is not clean, each over the whole line before the next. A line that all three pass is clean, and
+// nothing is asked of it here.
+fn judge_spoiled(line: &[u16]) -> Reading
+    ensures { λ r. ⌜ r ≡ spoiled (now (line .entry)) ⌝ }
 {
     let bad = first_no_character(line);
     if let Place::At(i) = bad {
@@ -48,7 +49,7 @@ fn judge_in_order(q: Question, line: &[u16]) -> Reading
     if let Place::At(i) = odd {
         return Reading::Refused(Refusal::Manchester(i));
     }
-    judge_bytes(q, line)
+    Reading::Refused(Refusal::Frame)
 }
 
 // All rows, with room for so many values.

@@ -15,7 +15,7 @@ use borrow.Author.Tests.{le-leb, eq-eqb}
 use Rattle.ground.proofs.Test.{below-or-not}
 use Rattle.ground.proofs.Sweep.{tabulated-same}
 use Rattle.ground.proofs.Lists.{sets-append, tabulated-shift}
-use Rattle.packing.specs.Words.{wordsOf, bytesOf, wordAt, withWord, lineIn, LineTaken}
+use Rattle.packing.specs.Words.{wordsOf, asBytes, wordAt, withWord, lineIn, LineTaken}
 use Rattle.packing.proofs.Back.{length-bytes, length-words, bytes-append}
 
 -- the words of some bytes, place by place
@@ -40,15 +40,15 @@ words-tabulated (low ∷ high ∷ rest) =
 
 -- one more word's bytes
 pub bytes-next : (out words : List ℕ) (k : ℕ) → k < length words
-    → withWord (sets out 0 (bytesOf (take k words))) k (getD words k 0) ≡ sets out 0 (bytesOf (take (k + 1) words))
-unfolding bytesOf
+    → withWord (sets out 0 (asBytes (take k words))) k (getD words k 0) ≡ sets out 0 (asBytes (take (k + 1) words))
+unfolding asBytes
 bytes-next out words k h =
     let w = getD words k 0 in
-    let at : length (bytesOf (take k words)) ≡ 2 * k = length-bytes (take k words) ∙ ap (λ (n : ℕ). 2 * n) (length-take-le k words (omega arith)) in
-    sym (ap (λ (n : ℕ). sets out 0 (bytesOf (take n words))) (add-one k) ∙ ap (λ (l : List ℕ). sets out 0 (bytesOf l)) (take-suc words k 0 h)
-    ∙ ap (sets out 0) (bytes-append (take k words) (w ∷ [])) ∙ sets-append out 0 (bytesOf (take k words)) (w % 256 ∷ w / 256 ∷ [])
-    ∙ ap (λ (n : ℕ). set (set (sets out 0 (bytesOf (take k words))) n (w % 256)) (suc n) (w / 256)) (zero-add (length (bytesOf (take k words))) ∙ at)
-    ∙ ap (λ (n : ℕ). set (set (sets out 0 (bytesOf (take k words))) (2 * k) (w % 256)) n (w / 256)) (sym (add-one (2 * k))))
+    let at : length (asBytes (take k words)) ≡ 2 * k = length-bytes (take k words) ∙ ap (λ (n : ℕ). 2 * n) (length-take-le k words (omega arith)) in
+    sym (ap (λ (n : ℕ). sets out 0 (asBytes (take n words))) (add-one k) ∙ ap (λ (l : List ℕ). sets out 0 (asBytes l)) (take-suc words k 0 h)
+    ∙ ap (sets out 0) (bytes-append (take k words) (w ∷ [])) ∙ sets-append out 0 (asBytes (take k words)) (w % 256 ∷ w / 256 ∷ [])
+    ∙ ap (λ (n : ℕ). set (set (sets out 0 (asBytes (take k words))) n (w % 256)) (suc n) (w / 256)) (zero-add (length (asBytes (take k words))) ∙ at)
+    ∙ ap (λ (n : ℕ). set (set (sets out 0 (asBytes (take k words))) (2 * k) (w % 256)) n (w / 256)) (sym (add-one (2 * k))))
 
 -- as many words as there are and as there is room for
 pub all-that-fit : (words : List ℕ) (k room : ℕ) → k ≤ length words → k ≤ room → min (length words) room ≤ k → take k words ≡ take room words

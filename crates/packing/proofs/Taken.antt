@@ -9,7 +9,7 @@ use lib.ListN.{length, take, drop}
 use lib.Seq.{sets, take-at, take-all}
 use borrow.Author.Tests.{leb-true}
 use Rattle.ground.proofs.Lists.{sets-front}
-use Rattle.packing.specs.Words.{wordsOf, bytesOf, lineIn, LineTaken}
+use Rattle.packing.specs.Words.{wordsOf, asBytes, lineIn, LineTaken}
 use Rattle.packing.proofs.Back.{length-words, length-bytes}
 
 pub taken-most : (room : ℕ) (bytes : List ℕ) → length (lineIn room bytes) ≤ room
@@ -27,7 +27,7 @@ line-front bytes before after r taken =
     ap (take r) (taken .leaves ∙ sets-front line before (taken-most (length before) bytes)) ∙ take-at line (drop (length line) before) r (sym (taken .counts))
 
 -- and words stored where there is room for all of them
-pub packed-front : (words out : List ℕ) → length words ≤ length out / 2 → sets out 0 (bytesOf (take (length out / 2) words)) ≡ bytesOf words ++ drop (length (bytesOf words)) out
+pub packed-front : (words out : List ℕ) → length words ≤ length out / 2 → sets out 0 (asBytes (take (length out / 2) words)) ≡ asBytes words ++ drop (length (asBytes words)) out
 packed-front words out fits =
-    ap (λ (l : List ℕ). sets out 0 (bytesOf l)) (take-all (length out / 2) words fits)
-    ∙ sets-front (bytesOf words) out (omega (arith, length-bytes words))
+    ap (λ (l : List ℕ). sets out 0 (asBytes l)) (take-all (length out / 2) words fits)
+    ∙ sets-front (asBytes words) out (omega (arith, length-bytes words))

@@ -14,9 +14,9 @@ wordsOf (b ∷ []) = []
 wordsOf (low ∷ high ∷ rest) = (low + 256 * high) ∷ wordsOf rest
 
 -- the bytes of some words
-unfoldable pub bytesOf : List ℕ → List ℕ
-bytesOf [] = []
-bytesOf (w ∷ words) = (w % 256) ∷ (w / 256) ∷ bytesOf words
+unfoldable pub asBytes : List ℕ → List ℕ
+asBytes [] = []
+asBytes (w ∷ words) = (w % 256) ∷ (w / 256) ∷ asBytes words
 
 -- word k of some bytes
 abbrev pub wordAt : List ℕ → (k : ℕ) → ℕ

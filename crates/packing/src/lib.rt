@@ -3,7 +3,7 @@ ghost use mathlib.Core.Path.{_≡_};
 ghost use Prim.Native.Nat.{_+_, _*_, _/_, _<_, min};
 ghost use lib.ListN.{length, set, take};
 ghost use lib.Seq.{sets};
-ghost use Rattle.packing.specs.Words.{wordAt, wordsOf, bytesOf, withWord, LineTaken};
+ghost use Rattle.packing.specs.Words.{wordAt, wordsOf, asBytes, withWord, LineTaken};
 
 // The words of some bytes at the front of the lent words, as far as there is room; the rest stays. An odd last byte counts for nothing.
 pub fn unpack(bytes: &[u8], out: &mut [u16])
@@ -48,7 +48,7 @@ pub fn join(low: u8, high: u8) -> u16
 
 // The bytes of some words at the front of the lent bytes, as many words as there is room for; the rest stays, an odd last byte too.
 pub fn pack(words: &[u16], out: &mut [u8])
-    ensures { λ _. ⌜ now (out .exit) ≡ sets (now (out .entry)) 0 (bytesOf (take (length (now (out .entry)) / 2) (now (words .entry)))) ⌝ }
+    ensures { λ _. ⌜ now (out .exit) ≡ sets (now (out .entry)) 0 (asBytes (take (length (now (out .entry)) / 2) (now (words .entry)))) ⌝ }
 {
     let fitting = least(words.len(), out.len() / 2);
     let mut k = 0;

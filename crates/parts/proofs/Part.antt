@@ -14,7 +14,7 @@ use Rattle.questions.specs.Shape.{shapeAt, shapeOf}
 use Rattle.questions.specs.declared.question.Question.{Question}
 use Rattle.questions.proofs.ByKind.{each-kind}
 use Rattle.questions.proofs.Good.{good-kind, good-values, read-shape}
-use Rattle.parts.specs.Part.{orderOf, carried, startOf, partOf}
+use Rattle.parts.specs.Part.{orderOf, valuesFound, startOf, partOf}
 use Rattle.judging.proofs.Accepted.{some-values}
 
 order-below : (q : Question) (a : ℕ) → goodQuestion q ≡ true → 3 ≤ q .kind → covers q a ≡ true → orderOf q a < shapeOf q .values
@@ -24,12 +24,12 @@ order-below q a good =
     (λ lo e. absurd (omega arith)) (λ lo e. absurd (omega arith)) (λ lo e. absurd (omega arith))
     (λ lo e. ltb-true a (q .n) e) (λ lo e. lit< tt) (q .kind) (good-kind q good)
 
-module _ (q : Question) (line : List ℕ) (a : ℕ) (some : 0 < carried q line) (put-to : covers q a ≡ true) where
+module _ (q : Question) (line : List ℕ) (a : ℕ) (some : 0 < valuesFound q line) (put-to : covers q a ≡ true) where
   -- a device that the question is put to has its place among the values, and its four characters on the line
   pub record Inside : Type 0 where
-    pub few : carried q line ≤ 32
-    pub order : orderOf q a < carried q line
-    pub within : 5 + 4 * (carried q line - 1 - orderOf q a) + 4 ≤ length line
+    pub few : valuesFound q line ≤ 32
+    pub order : orderOf q a < valuesFound q line
+    pub within : 5 + 4 * (valuesFound q line - 1 - orderOf q a) + 4 ≤ length line
 
   pub inside : Inside
   inside =
@@ -42,23 +42,23 @@ module _ (q : Question) (line : List ℕ) (a : ℕ) (some : 0 < carried q line) 
         within = omega (arith, c .values, order, c .taken .words, read-shape q (c .read) .words);
       }
 
-  pub part-there : take 4 (drop (5 + 4 * (carried q line - 1 - orderOf q a)) line) ≡ partOf q line a
+  pub part-there : take 4 (drop (5 + 4 * (valuesFound q line - 1 - orderOf q a)) line) ≡ partOf q line a
   unfolding partOf
   part-there =
-      sym (ap (λ (t : Bool). cond t (take 4 (drop (5 + 4 * (carried q line - 1 - orderOf q a)) line)) [])
-      (ap (λ (t : Bool). t && covers q a) (lt-ltb 0 (carried q line) some) ∙ put-to))
+      sym (ap (λ (t : Bool). cond t (take 4 (drop (5 + 4 * (valuesFound q line - 1 - orderOf q a)) line)) [])
+      (ap (λ (t : Bool). t && covers q a) (lt-ltb 0 (valuesFound q line) some) ∙ put-to))
 
-  pub start-there : 5 + 4 * (carried q line - 1 - orderOf q a) ≡ startOf q line a
+  pub start-there : 5 + 4 * (valuesFound q line - 1 - orderOf q a) ≡ startOf q line a
   unfolding startOf
   start-there =
-      sym (ap (λ (t : Bool). cond t (5 + 4 * (carried q line - 1 - orderOf q a)) 0)
-      (ap (λ (t : Bool). t && covers q a) (lt-ltb 0 (carried q line) some) ∙ put-to))
+      sym (ap (λ (t : Bool). cond t (5 + 4 * (valuesFound q line - 1 - orderOf q a)) 0)
+      (ap (λ (t : Bool). t && covers q a) (lt-ltb 0 (valuesFound q line) some) ∙ put-to))
 
-pub no-part : (q : Question) (line : List ℕ) (a : ℕ) → carried q line ≡ 0 → [] ≡ partOf q line a
+pub no-part : (q : Question) (line : List ℕ) (a : ℕ) → valuesFound q line ≡ 0 → [] ≡ partOf q line a
 unfolding partOf
 no-part q line a e =
-    sym (ap (λ (t : Bool). cond (t && covers q a) (take 4 (drop (5 + 4 * (carried q line - 1 - orderOf q a)) line)) [])
-    (le-ltb 0 (carried q line) (omega arith)))
+    sym (ap (λ (t : Bool). cond (t && covers q a) (take 4 (drop (5 + 4 * (valuesFound q line - 1 - orderOf q a)) line)) [])
+    (le-ltb 0 (valuesFound q line) (omega arith)))
 
 and-false : (t : Bool) → (t && false) ≡ false
 and-false true = refl
@@ -67,29 +67,29 @@ and-false false = refl
 pub not-put-to : (q : Question) (line : List ℕ) (a : ℕ) → covers q a ≡ false → [] ≡ partOf q line a
 unfolding partOf
 not-put-to q line a e =
-    sym (ap (λ (t : Bool). cond t (take 4 (drop (5 + 4 * (carried q line - 1 - orderOf q a)) line)) [])
-    (ap (λ (t : Bool). ltb 0 (carried q line) && t) e ∙ and-false (ltb 0 (carried q line))))
+    sym (ap (λ (t : Bool). cond t (take 4 (drop (5 + 4 * (valuesFound q line - 1 - orderOf q a)) line)) [])
+    (ap (λ (t : Bool). ltb 0 (valuesFound q line) && t) e ∙ and-false (ltb 0 (valuesFound q line))))
 
 -- ---- the place of the part
 
-pub no-start : (q : Question) (line : List ℕ) (a : ℕ) → carried q line ≡ 0 → 0 ≡ startOf q line a
+pub no-start : (q : Question) (line : List ℕ) (a : ℕ) → valuesFound q line ≡ 0 → 0 ≡ startOf q line a
 unfolding startOf
 no-start q line a e =
-    sym (ap (λ (t : Bool). cond (t && covers q a) (5 + 4 * (carried q line - 1 - orderOf q a)) 0)
-    (le-ltb 0 (carried q line) (omega arith)))
+    sym (ap (λ (t : Bool). cond (t && covers q a) (5 + 4 * (valuesFound q line - 1 - orderOf q a)) 0)
+    (le-ltb 0 (valuesFound q line) (omega arith)))
 
 pub start-not-put-to : (q : Question) (line : List ℕ) (a : ℕ) → covers q a ≡ false → 0 ≡ startOf q line a
 unfolding startOf
 start-not-put-to q line a e =
-    sym (ap (λ (t : Bool). cond t (5 + 4 * (carried q line - 1 - orderOf q a)) 0)
-    (ap (λ (t : Bool). ltb 0 (carried q line) && t) e ∙ and-false (ltb 0 (carried q line))))
+    sym (ap (λ (t : Bool). cond t (5 + 4 * (valuesFound q line - 1 - orderOf q a)) 0)
+    (ap (λ (t : Bool). ltb 0 (valuesFound q line) && t) e ∙ and-false (ltb 0 (valuesFound q line))))
 
 module _ (q : Question) (line : List ℕ) (a : ℕ) where
   -- a place is given only where values are carried and the device is put to
-  pub starts : 0 < startOf q line a → (0 < carried q line) × (covers q a ≡ true)
+  pub starts : 0 < startOf q line a → (0 < valuesFound q line) × (covers q a ≡ true)
   starts h =
       ⊎-elim (λ none. absurd (omega (arith, no-start q line a none))) (λ some. (some, by-test (covers q a) refl))
-      (eq-zero-or-pos (carried q line))
+      (eq-zero-or-pos (valuesFound q line))
     where
       by-test : (t : Bool) → covers q a ≡ t → covers q a ≡ true
       by-test true e = e
@@ -98,9 +98,9 @@ module _ (q : Question) (line : List ℕ) (a : ℕ) where
   -- where it is 0 there is no part
   pub no-start-no-part : startOf q line a ≡ 0 → [] ≡ partOf q line a
   no-start-no-part e =
-      ⊎-elim (λ none. no-part q line a none) (λ some. by-test some (covers q a) refl) (eq-zero-or-pos (carried q line))
+      ⊎-elim (λ none. no-part q line a none) (λ some. by-test some (covers q a) refl) (eq-zero-or-pos (valuesFound q line))
     where
-      by-test : 0 < carried q line → (t : Bool) → covers q a ≡ t → [] ≡ partOf q line a
+      by-test : 0 < valuesFound q line → (t : Bool) → covers q a ≡ t → [] ≡ partOf q line a
       by-test some true put-to = absurd (omega (arith, start-there q line a some put-to))
       by-test some false out = not-put-to q line a out
 

@@ -15,15 +15,15 @@ unfoldable pub orderOf : Question → ℕ → ℕ
 orderOf q a = cond (eqb (q .kind) readAll) a 0
 
 -- how many values the second call finds: it needs no room
-abbrev pub carried : Question → List ℕ → ℕ
-carried q line = valuesTaken (judgeOf q line (shapeOf q .values))
+abbrev pub valuesFound : Question → List ℕ → ℕ
+valuesFound q line = valuesTaken (judgeOf q line (shapeOf q .values))
 
 -- the place of the first of the four characters that carry a device's register; 0 for a line turned away, for another kind, and for a device
 -- that the question is not put to
 unfoldable pub startOf : Question → List ℕ → ℕ → ℕ
-startOf q line a = cond (ltb 0 (carried q line) && covers q a) (5 + 4 * (carried q line - 1 - orderOf q a)) 0
+startOf q line a = cond (ltb 0 (valuesFound q line) && covers q a) (5 + 4 * (valuesFound q line - 1 - orderOf q a)) 0
 
 -- the second call: the four characters that carry a device's register; nothing where there is no such part
 unfoldable pub partOf : Question → List ℕ → ℕ → List ℕ
 partOf q line a =
-    cond (ltb 0 (carried q line) && covers q a) (take 4 (drop (5 + 4 * (carried q line - 1 - orderOf q a)) line)) []
+    cond (ltb 0 (valuesFound q line) && covers q a) (take 4 (drop (5 + 4 * (valuesFound q line - 1 - orderOf q a)) line)) []

@@ -6,7 +6,7 @@ use questions::question::is_covered;
 use questions::question::shape_of;
 use readings::values_taken;
 ghost use mathlib.Core.Path.{_≡_};
-ghost use Rattle.parts.specs.Part.{orderOf, carried, startOf, partOf};
+ghost use Rattle.parts.specs.Part.{orderOf, valuesFound, startOf, partOf};
 
 // The part of the line whose four characters carry this device's register, where the line is accepted; else an empty part.
 pub fn register_part<'a>(q: Question, line: &'a [u16], device: u8) -> &'a [u16]
@@ -37,7 +37,7 @@ pub fn part_start(q: Question, line: &[u16], device: u8) -> usize
 
 // How many values an accepted line carries: room plays no part.
 fn carried_by(q: Question, line: &[u16]) -> usize
-    ensures { λ r. ⌜ r ≡ carried q (now (line .entry)) ⌝ }
+    ensures { λ r. ⌜ r ≡ valuesFound q (now (line .entry)) ⌝ }
 {
     let s = shape_of(q);
     let room = s.values;

@@ -8,7 +8,7 @@ use borrow.Author.Tests.{le-leb, lt-leb}
 use Rattle.ground.proofs.Lists.{sets-front}
 use Rattle.letters.specs.declared.Standing.{Standing}
 use Rattle.printing.specs.Text.{certificateText}
-use Rattle.printing.specs.Print.{mostEntries, printedOf, textAfter, PrintDone, Laid}
+use Rattle.printing.specs.Print.{mostEntries, printedOf, textAfter, PrintDone, StoredAt}
 use Rattle.printing.specs.declared.Printed.the-variants.{Bytes, Many, Room}
 
 module _ (n : ℕ) (numbers : List ℕ) (s : Standing) (text : List ℕ) where
@@ -27,7 +27,7 @@ module _ (n : ℕ) (numbers : List ℕ) (s : Standing) (text : List ℕ) where
         record { says = simp (fits, room); leaves = simp (fits, room) }
 
     pub printed : {after : List ℕ} {end : ℕ} → length (certificateText n numbers s) ≤ length text
-        → Laid text 0 (certificateText n numbers s) after end → PrintDone n numbers s text after (Bytes end)
+        → StoredAt text 0 (certificateText n numbers s) after end → PrintDone n numbers s text after (Bytes end)
     unfolding printedOf textAfter
     printed enough laid =
         let whole = certificateText n numbers s in

@@ -36,6 +36,6 @@ pub record PrintDone (n : ℕ) (numbers : List ℕ) (s : Standing) (before after
   pub leaves : after ≡ textAfter n numbers s before
 
 -- bytes stored from a place on, as far as there is room, and counted
-pub record Laid (before : List ℕ) (at : ℕ) (bytes after : List ℕ) (end : ℕ) : Type 0 where
+pub record StoredAt (before : List ℕ) (at : ℕ) (bytes after : List ℕ) (end : ℕ) : Type 0 where
   pub leaves : after ≡ sets before at bytes
   pub up : end ≡ at + length bytes

@@ -5,7 +5,9 @@ pub mod OwnLetter
 pub mod Demand2
 pub mod Apart
 pub mod Demand3
-pub mod Masks
+pub mod MasksOnWire
+pub mod MasksOnLine
+pub mod TurnedAnswer
 pub mod Undetected
 pub mod WhereItEnds
 pub mod EachStep

@@ -12,7 +12,7 @@ use lib.ListN.{length}
 use borrow.Author.Tests.{ne-eqb}
 use Rattle.ground.specs.Sweep.{tabulated}
 use Rattle.lines.specs.Write.{atFront}
-use Rattle.packing.specs.Words.{bytesOf}
+use Rattle.packing.specs.Words.{asBytes}
 use Rattle.questions.specs.declared.question.Question as asked
 use Rattle.readings.specs.Reading.{valuesTaken}
 use Rattle.readings.specs.declared.Reading.{Reading}
@@ -39,9 +39,9 @@ use Rattle.promises.proofs.RefusedWritesNothing.{refused-certificate}
 
 pub refused-read-bytes : (q : asked.Question) (line before after : List ℕ) (r : ℕ) → ReadBytesDone q line before after r
     → TurnedAway (packedNumber r) → after ≡ before
-unfolding bytesOf
+unfolding asBytes
 refused-read-bytes q line before after r done away =
-    done .leaves ∙ ap (λ (m : ℕ). atFront (bytesOf (valuesOn (lineOn line) m)) before) (no-values (readingOn q line before) (done .says))
+    done .leaves ∙ ap (λ (m : ℕ). atFront (asBytes (valuesOn (lineOn line) m)) before) (no-values (readingOn q line before) (done .says))
   where
     no-values : (reading : Reading) → r ≡ packedReading reading → valuesTaken reading ≡ 0
     no-values (Counted n) e = refl
@@ -51,10 +51,10 @@ refused-read-bytes q line before after r done away =
 
 pub refused-command-bytes : (q : asked.Question) (before after : List ℕ) (r : ℕ) → CommandBytesDone q before after r
     → TurnedAway (packedNumber r) → after ≡ before
-unfolding bytesOf
+unfolding asBytes
 refused-command-bytes q before after r done away = done .leaves ∙ nothing-out (issuedInto q before) (done .says)
   where
-    nothing-out : (i : Issued) → r ≡ packedIssued i → atFront (bytesOf (wordsOut i q)) before ≡ before
+    nothing-out : (i : Issued) → r ≡ packedIssued i → atFront (asBytes (wordsOut i q)) before ≡ before
     nothing-out (Words n) e = absurd (omega arith)
     nothing-out Question e = refl
     nothing-out Room e = refl
@@ -84,7 +84,7 @@ refused-cell c enabled register bipolar microvolts microvoltsAfter volts voltsAf
 pub refused-power-bytes : (n : ℕ) (before after : List ℕ) (r : ℕ) → PowerBytesDone n before after r → TurnedAway (packedNumber r) → after ≡ before
 refused-power-bytes n before after r done away = done .leaves ∙ by-test (chainIn n (length before)) (done .says)
   where
-    by-test : (fits : Bool) → r ≡ cond fits 0 15 → cond fits (bytesOf (tabulated fresh (256 * n) 0)) before ≡ before
+    by-test : (fits : Bool) → r ≡ cond fits 0 15 → cond fits (asBytes (tabulated fresh (256 * n) 0)) before ≡ before
     by-test true e = absurd (omega arith)
     by-test false e = refl
 

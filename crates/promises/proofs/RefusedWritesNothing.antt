@@ -19,13 +19,13 @@ use Rattle.readings.specs.declared.Reading.the-variants.{Counted, Written, Valu
 use Rattle.reader.specs.Read.{valuesOn, ReadDone}
 use Rattle.ground.specs.Sweep.{tabulated}
 use Rattle.registers.specs.Memory.{isChain, fresh, poweredOf, memoryOf, PoweredOn, poweredNumber}
-use Rattle.twin.specs.Step.{Standing, steppedOf, outOf, memoryAfter, Done, steppedNumber}
+use Rattle.twin.specs.Step.{Standing, steppedOf, outLeft, memoryAfter, Done, steppedNumber}
 use Rattle.registers.specs.declared.Powered.{Powered}
 use Rattle.registers.specs.declared.Powered.the-variants as powered
 use Rattle.twin.specs.declared.step.Stepped.{Stepped}
 use Rattle.twin.specs.declared.step.Stepped.the-variants as stepped
 use Rattle.jobs.specs.Check.{goodFile}
-use Rattle.certificate.specs.Certificate.{certificateOf, certifiedOf, textAfter, CertificateDone, certifiedNumber}
+use Rattle.certificate.specs.Certificate.{certificateOf, certifiedOf, certificateAfter, CertificateDone, certifiedNumber}
 use Rattle.certificate.specs.declared.Certified.{Certified}
 use Rattle.certificate.specs.declared.Certified.the-variants as certified
 use Rattle.rehearsal.specs.Rehearsal.{rehearsalOf, rehearsedOf, outAfter, RehearsalDone, rehearsedNumber}
@@ -70,7 +70,7 @@ refused-power-on n before after r done away = done .leaves ∙ by-test (isChain 
 pub refused-step : (fits : Bool) (before after : Standing) (out outAfter memoryLeft : List ℕ) (r : Stepped)
     → Done fits before after out outAfter memoryLeft r
     → TurnedAway (steppedNumber r) → (memoryLeft ≡ before .memory) × (outAfter ≡ out)
-unfolding steppedOf outOf memoryAfter
+unfolding steppedOf outLeft memoryAfter
 refused-step fits before after out outAfter memoryLeft r done away =
     let by = by-tests fits (leb (length (before .line)) (length out)) (ap steppedNumber (done .says)) in
     (done .remembers ∙ by .0, done .leaves ∙ by .1)
@@ -85,7 +85,7 @@ refused-step fits before after out outAfter memoryLeft r done away =
 -- the certificate
 pub refused-certificate : (file before after : List ℕ) (r : Certified) → CertificateDone file before after r
     → TurnedAway (certifiedNumber r) → after ≡ before
-unfolding certifiedOf textAfter
+unfolding certifiedOf certificateAfter
 refused-certificate file before after r done away =
     done .leaves ∙ by-tests (goodFile file) (leb (length (certificateOf file)) (length before)) (ap certifiedNumber (done .says))
   where

@@ -1,41 +1,30 @@
--- Damage that is not found: a register's bits turned over, and with them the PEC's that make it right again, make the line another answer's,
--- which is accepted. How many bits that takes does not depend on the values: it is computed from the masks, for every device count.
-use mathlib.Core.Path.{_≡_, sym, ap, ap₂, _∙_, subst}
-use mathlib.Core.Bool.{Bool, true, cond, _||_}
+-- Damage that is not found: the answer's line with it is another answer's, which is accepted. How many bits that takes does not depend on the
+-- values: it is computed from the masks, for every device count.
+use mathlib.Core.Path.{_≡_, sym, ap, _∙_, subst}
+use mathlib.Core.Bool.{Bool, true, _||_}
 use mathlib.Core.Logic.{⊎-elim}
-use mathlib.Core.List.{List, _∷_, _++_}
-use Prim.Native.Nat.{ℕ, zero, suc, _+_, _*_, _≤_, _<_}
+use mathlib.Core.List.{List}
+use Prim.Native.Nat.{ℕ, _+_, _*_, _≤_, _<_}
 use native.Mathlib.Omega.{arith}
-use lib.Bits.{bitXor, xor-zero-r}
 use lib.Count.{ones}
-use lib.Dec.{eqb, ltb, lit<}
-use lib.ListN.{length, length-append, replicate, length-replicate}
+use lib.Dec.{eqb, ltb}
 use borrow.Author.Tests.{eqb-true, ltb-true}
 use Rattle.ground.specs.Sweep.{every}
 use Rattle.ground.proofs.Test.{or-cases}
-use Rattle.ground.proofs.Sweep.{swept, length-tabulated}
+use Rattle.ground.proofs.Sweep.{swept}
 use Rattle.remainder.specs.Register.{run}
-use Rattle.remainder.specs.Turned.{turned, weight, distance, Bytes}
-use Rattle.remainder.proofs.Linear.{run-linear}
-use Rattle.remainder.proofs.Turned.{length-turned, distance-turned, distance-self}
-use Rattle.pec.specs.Pec.{byteStep, pecOf}
-use Rattle.pec.proofs.Byte.{byte-linear, run-lt}
-use Rattle.lines.specs.Line.{lineOf}
-use Rattle.lines.proofs.Line.{length-line}
-use Rattle.questions.specs.Shape.{shapeOf}
-use Rattle.questions.specs.Bytes.{aliveByte, sealed, readCovered, answerBytes}
+use Rattle.remainder.specs.Turned.{weight, distance}
+use Rattle.remainder.proofs.Turned.{distance-turned, distance-self}
+use Rattle.pec.specs.Pec.{byteStep}
 use Rattle.questions.specs.declared.question.Question.{Question}
-use Rattle.questions.proofs.Good.{good-alive, good-count}
+use Rattle.questions.proofs.Good.{good-count}
 use Rattle.reader.specs.Read.{ReadDone}
-use Rattle.acceptance.specs.Answer.{Registers}
-use Rattle.acceptance.proofs.Wire.{bytes-append, bytes-cons}
-use Rattle.acceptance.proofs.Sealed.{length-sealed}
 use Rattle.promises.specs.Demand3.{ReadsAll, answerLine}
 use Rattle.promises.specs.WhereItEnds.{inDevice, damage, Undetected}
-use Rattle.promises.proofs.Apart.{varied, length-varied, varied-bytes, start, answer, answer-are-bytes, lines-apart}
-use Rattle.promises.proofs.Masks.{turned-append, varied-turned, by-masks, turned-registers, device-registers}
-use Rattle.promises.proofs.Masks.{length-on-line, line-turned, no-mask}
+use Rattle.promises.proofs.Apart.{varied, start, lines-apart}
 use Rattle.promises.proofs.Demand3.{all-values, demand-3}
+use Rattle.promises.proofs.MasksOnWire.{by-masks}
+use Rattle.promises.proofs.TurnedAnswer.{mask, others, same, others-read, line-is-turned, damage-long}
 
 -- with `least` devices or more, the masks turn over `apart` bits of values and PEC: one test for every device count
 unfoldable pub ends : (device bits least apart : ℕ) → ℕ → Bool
@@ -49,104 +38,26 @@ end-at device bits least apart n all lo hi =
     ⊎-elim (λ e. absurd (omega (arith, ltb-true n least e))) (λ e. eqb-true _ apart e)
     (or-cases (ltb n least) _ (swept (ends device bits least apart) 33 all n (omega arith)))
 
-module _ (q : Question) (values : List ℕ) (all : ReadsAll q values) where
-  module _ (device bits : ℕ) (small : bits < 65536) where
-    mask : List ℕ
-    mask = inDevice (q .n) device bits
-
-    others : List ℕ
-    others = turned values mask
-
-    same : length values ≡ length mask
-    unfolding mask
-    same = all .number ∙ sym (length-tabulated (λ k. cond (eqb k device) bits 0) (q .n) 0)
-
-    mask-registers : Registers mask
-    unfolding mask
-    mask-registers = device-registers (q .n) device bits 0 small
-
-    others-read : ReadsAll q others
-    unfolding others
-    others-read = record {
-      asks = all .asks;
-      number = length-turned values mask ∙ all .number;
-      registers = turned-registers values mask (all .registers) mask-registers;
-    }
-
-    -- the answer's bytes with the masks on them are the other answer's bytes
-    behind : List ℕ
-    behind = run byteStep 0 (varied mask) ∷ replicate (q .alive) 0
-
-    bytes-turned : turned (sealed q (shapeOf q .acting) (readCovered q values 0)) (0 ∷ 0 ∷ (varied mask ++ behind))
-        ≡ sealed q (shapeOf q .acting) (readCovered q others 0)
-    unfolding sealed turned behind others pecOf run start
-    bytes-turned =
-        let alive = aliveByte q (shapeOf q .acting) in
-        let begun = start q (all .asks) in
-        let size : length (varied values) ≡ length (varied mask) = omega (arith, length-varied values, length-varied mask, same) in
-        let pec : bitXor (run byteStep begun (varied values)) (run byteStep 0 (varied mask)) ≡ run byteStep begun (varied others) =
-        sym (run-linear byteStep byte-linear begun 0 (varied values) (varied mask) size)
-        ∙ ap₂ (λ (c : ℕ) (l : List ℕ). run byteStep c l) (xor-zero-r begun) (sym (varied-turned values mask same)) in
-        ap₂ (λ (x y : ℕ). x ∷ y ∷ turned (varied values ++ (pecOf (readCovered q values 0) ∷ alive)) (varied mask ++ behind))
-        (xor-zero-r (shapeOf q .first)) (xor-zero-r (q .reg))
-        ∙ ap (λ (l : List ℕ). shapeOf q .first ∷ q .reg ∷ l)
-        (turned-append (varied values) (pecOf (readCovered q values 0) ∷ alive) (varied mask) behind size
-        ∙ ap₂ (λ (x y : List ℕ). x ++ y) (sym (varied-turned values mask same))
-        (ap₂ (λ (x : ℕ) (l : List ℕ). x ∷ l) pec (no-mask alive (q .alive))))
-
-    masks-are-bytes : Bytes (0 ∷ 0 ∷ (varied mask ++ behind))
-    unfolding behind
-    masks-are-bytes =
-        let wire = varied-bytes mask mask-registers in
-        bytes-cons 0 (0 ∷ (varied mask ++ behind)) (lit< tt)
-        (bytes-cons 0 (varied mask ++ behind) (lit< tt)
-        (bytes-append (varied mask) behind wire
-        (bytes-cons (run byteStep 0 (varied mask)) (replicate (q .alive) 0) (run-lt 0 (varied mask) (lit< tt) wire) (zeros (q .alive)))))
-      where
-        zeros : (n : ℕ) → Bytes (replicate n 0)
-        zeros zero i = lit< tt
-        zeros (suc n) zero = lit< tt
-        zeros (suc n) (suc i) = zeros n i
-
-    masks-long : length (sealed q (shapeOf q .acting) (readCovered q values 0)) ≡ length (0 ∷ 0 ∷ (varied mask ++ behind))
-    unfolding behind
-    masks-long =
-        omega (
-          arith,
-          length-sealed q (shapeOf q .acting) (good-alive q (all .asks .good)) (readCovered q values 0),
-          length-append (varied mask) behind,
-          length-replicate {A = ℕ} (q .alive) 0,
-          length-varied values,
-          length-varied mask,
-          same,
-        )
-
-    line-is-turned : turned (answerLine q values) (damage (q .n) (q .alive) device bits) ≡ answerLine q others
-    unfolding damage mask behind
-    line-is-turned =
-        ap (λ (l : List ℕ). turned (lineOf l) (damage (q .n) (q .alive) device bits)) (answer q (all .asks) values)
-        ∙ line-turned _ _ masks-long (answer-are-bytes q (all .asks) values (all .registers)) masks-are-bytes ∙ ap lineOf bytes-turned
-        ∙ ap lineOf (sym (answer q (all .asks) others))
-
-    damage-long : length (damage (q .n) (q .alive) device bits) ≡ length (answerLine q values)
-    unfolding damage mask behind
-    damage-long =
-        length-on-line _ ∙ ap (λ (k : ℕ). 2 * k + 2) (sym masks-long ∙ sym (ap length (answer q (all .asks) values)))
-        ∙ sym (length-line (answerBytes q values 0))
-
-    pub not-found : (least apart : ℕ) → 1 ≤ apart → every (ends device bits least apart) 33 ≡ true → least ≤ q .n
-        → Undetected q values (damage (q .n) (q .alive) device bits) (2 * apart)
-    unfolding others mask
-    not-found least apart pos computed lo =
-        let line = answerLine q values in
-        let most = good-count q (all .asks .good) (omega arith) .1 in
-        let apart-by = lines-apart q (all .asks) values others (all-values q values all) (all-values q others others-read)
-        ∙ ap (λ (d : ℕ). 2 * d) (by-masks (start q (all .asks)) values mask same ∙ end-at device bits least apart (q .n) computed lo most) in
-        record {
-          every = damage-long;
-          turns = sym (distance-turned line (damage (q .n) (q .alive) device bits) damage-long) ∙ ap (distance line) line-is-turned ∙ apart-by;
-          others = others;
-          differ = λ e. omega (arith, apart-by, ap (λ (v : List ℕ). distance line (answerLine q v)) (sym e), distance-self line);
-          accepted = λ before after r room done. demand-3 .undamaged q others others-read before after r room
-              (subst (λ (l : List ℕ). ReadDone q l before after r) line-is-turned done);
-        }
+module _ (q : Question) (values : List ℕ) (all : ReadsAll q values) (device bits : ℕ) (small : bits < 65536) where
+  pub not-found : (least apart : ℕ) → 1 ≤ apart → every (ends device bits least apart) 33 ≡ true → least ≤ q .n
+      → Undetected q values (damage (q .n) (q .alive) device bits) (2 * apart)
+  unfolding others mask
+  not-found least apart pos computed lo =
+      let line = answerLine q values in
+      let values′ = others q values all device bits small in
+      let read′ = others-read q values all device bits small in
+      let long = damage-long q values all device bits small in
+      let is = line-is-turned q values all device bits small in
+      let most = good-count q (all .asks .good) (omega arith) .1 in
+      let apart-by = lines-apart q (all .asks) values values′ (all-values q values all) (all-values q values′ read′)
+      ∙ ap (λ (d : ℕ). 2 * d)
+      (by-masks (start q (all .asks)) values (mask q values all device bits small) (same q values all device bits small)
+      ∙ end-at device bits least apart (q .n) computed lo most) in
+      record {
+        every = long;
+        turns = sym (distance-turned line (damage (q .n) (q .alive) device bits) long) ∙ ap (distance line) is ∙ apart-by;
+        others = values′;
+        differ = λ e. omega (arith, apart-by, ap (λ (v : List ℕ). distance line (answerLine q v)) (sym e), distance-self line);
+        accepted = λ before after r room done. demand-3 .undamaged q values′ read′ before after r room
+            (subst (λ (l : List ℕ). ReadDone q l before after r) is done);
+      }

@@ -9,7 +9,7 @@ use lib.ListN.{length}
 use borrow.Author.Tests.{eqb-true}
 use Rattle.ground.specs.Sweep.{tabulated}
 use Rattle.ground.proofs.Test.{and-right}
-use Rattle.registers.specs.Memory.{isChain, figure, fresh, poweredOf, memoryOf, PoweredOn}
+use Rattle.registers.specs.Memory.{isChain, powerOnFigure, fresh, poweredOf, memoryOf, PoweredOn}
 use Rattle.registers.specs.declared.Powered.the-variants.{On, Twin}
 
 -- how many words the memory of a chain has
@@ -35,8 +35,8 @@ either-lt : (t : Bool) (a b : ℕ) → a < 65536 → b < 65536 → cond t a b < 
 either-lt true a b ha hb = ha
 either-lt false a b ha hb = hb
 
-pub figure-lt : (r : ℕ) → figure r < 65536
-unfolding figure
+pub figure-lt : (r : ℕ) → powerOnFigure r < 65536
+unfolding powerOnFigure
 figure-lt r =
     either-lt (eqb r 0x00) 0x8236 _ (omega arith)
     (either-lt (eqb r 0x02) 0x8000 _ (omega arith)

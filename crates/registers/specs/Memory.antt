@@ -15,8 +15,8 @@ isChain n words = leb 1 n && leb n 32 && eqb words (256 * n)
 
 -- What register r holds after power-on: nine figures of 004's table (VERSION, STATUS, MINMAXCELL, DEVCFG1, TOPCELL, OVTHCLR, OVTHSET,
 -- MSMTCH, AINUT), and 0000h where its figure is that, where it has no fixed one (ID1, ID2), and where it has no row.
-unfoldable pub figure : ℕ → ℕ
-figure r =
+unfoldable pub powerOnFigure : ℕ → ℕ
+powerOnFigure r =
     cond (eqb r 0x00) 0x8236
     (cond (eqb r 0x02) 0x8000
     (cond (eqb r 0x0A) 0x0F0F
@@ -30,7 +30,7 @@ figure r =
 
 -- word i of the memory belongs to register i modulo 256 of its device
 abbrev pub fresh : ℕ → ℕ
-fresh i = figure (i % 256)
+fresh i = powerOnFigure (i % 256)
 
 -- the answer, and the lent memory after the call
 unfoldable pub poweredOf : (n : ℕ) (memory : List ℕ) → Powered

@@ -3,7 +3,7 @@ ghost use mathlib.Core.Path.{_≡_};
 ghost use Prim.Native.Nat.{_%_};
 ghost use lib.ListN.{length};
 ghost use Rattle.ground.specs.Sweep.{tabulated};
-ghost use Rattle.registers.specs.Memory.{isChain, figure, fresh, PoweredOn, poweredNumber};
+ghost use Rattle.registers.specs.Memory.{isChain, powerOnFigure, fresh, PoweredOn, poweredNumber};
 
 // The memory was filled, or row 15, TWIN.
 pub enum Powered {
@@ -26,7 +26,7 @@ pub fn is_chain(n: u8, words: usize) -> bool
 
 // What a register holds after power-on.
 fn figure_of(r: u8) -> u16
-    ensures { λ v. ⌜ v ≡ figure r ⌝ }
+    ensures { λ v. ⌜ v ≡ powerOnFigure r ⌝ }
 {
     match r {
         0x00 => 0x8236,

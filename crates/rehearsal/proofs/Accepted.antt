@@ -1,137 +1,26 @@
 -- WHAT A REHEARSAL SHOWS. The rehearsed file is a job file again; every good question in it is accepted by the reader, each read's values are
 -- what the chain's registers held when it came, and the registers change by the writes alone, from power-on on.
-use mathlib.Core.Path.{_≡_, refl, sym, ap, ap₂, subst, _∙_}
-use mathlib.Core.Bool.{Bool, true, false, _&&_}
+use mathlib.Core.Path.{_≡_, refl}
+use mathlib.Core.Bool.{true}
 use mathlib.Core.List.{List, [], _∷_}
-use Prim.Native.Nat.{ℕ, _*_, _%_, _≤_, _<_}
-use native.Mathlib.Omega.{arith}
-use lib.Dec.{leb}
-use lib.ListN.{length, getD, drop}
-use borrow.Author.Tests.{le-leb}
-use Rattle.ground.proofs.Test.{and-left, and-right}
+use Prim.Native.Nat.{ℕ, _*_, _%_, _≤_}
+use lib.ListN.{length, drop}
 use Rattle.ground.proofs.Sweep.{length-tabulated}
 use Rattle.remainder.specs.Turned.{Bytes}
-use Rattle.lines.proofs.Line.{line-wide}
-use Rattle.questions.specs.Question.{goodQuestion}
-use Rattle.questions.specs.Bytes.{answerBytes}
-use Rattle.questions.specs.declared.question.Question.{Question}
-use Rattle.questions.proofs.Good.{good-values}
-use Rattle.readings.specs.Reading.{numberOf}
-use Rattle.commands.specs.Command.{commandLine}
-use Rattle.acceptance.specs.Answer.{Registers, Sendable, AnswerTo}
-use Rattle.acceptance.proofs.AnswerIsAccepted.{answer-is-accepted, accepted-reading}
 use Rattle.registers.specs.Memory.{fresh}
 use Rattle.registers.proofs.Power.{figure-lt}
-use Rattle.twin.specs.Step.{Standing, standing, hops}
-use Rattle.twin.proofs.Stepping.{hops-memory}
-use Rattle.roundtrip.specs.Between.{held, broughtBack}
 use Rattle.roundtrip.proofs.Values.{tabulated-registers}
-use Rattle.roundtrip.proofs.RoundTrip.{right-answer}
-use Rattle.roundtrip.proofs.RegistersAfter.{held-after, still-registers}
 use Rattle.jobs.specs.declared.Header.{Header}
 use Rattle.jobs.specs.Format.{Entry, asked}
-use Rattle.jobs.specs.Rules.{unusedAreZero, keepsRules}
 use Rattle.jobs.specs.Check.{headerIn, entriesIn, goodFile}
-use Rattle.jobs.specs.Encoded.{Fits, AllKeep, Encodes}
+use Rattle.jobs.specs.Encoded.{AllKeep, Encodes}
 use Rattle.jobs.specs.Encoded.AllKeep.{none as keeps-none, more as keeps-more}
 use Rattle.jobs.proofs.Entries.{parts, header-least, header-most}
 use Rattle.jobs.proofs.GoodFile.{good-is-encoded}
 use Rattle.rehearsal.specs.Rehearsal.{sent, withWords, rehearsed, afterPowerOn, rehearsalOf}
-use Rattle.rehearsal.specs.Accepted.{AcceptedFrom, FromChain}
-use Rattle.rehearsal.specs.Accepted.FromChain.{none as no-more, good as answered-good, bad as not-sent}
-use Rattle.rehearsal.proofs.Sending.{sent-good, sent-bad, few-words, answer-length}
-
--- a chain: 1 to 32 devices with 256 registers each, of 16 bits
-pub record Chain (n : ℕ) (memory : List ℕ) : Type 0 where
-  pub least : 1 ≤ n
-  pub most : n ≤ 32
-  pub size : length memory ≡ 256 * n
-  pub words : Registers memory
-
--- ---- one question
-
-module _ (h : Header) (e : Entry) (fits : Fits e) (memory : List ℕ) (c : Chain (h .n) memory) where
-  abbrev q : Question
-  q = asked h e
-
-  abbrev n : ℕ
-  n = h .n
-
-  sends : Sendable q
-  sends = record { reg = fits .reg; value = fits .value }
-
-  module _ (good : goodQuestion q ≡ true) where
-    abbrev end : Standing
-    end = hops n n (standing memory (commandLine q))
-
-    answer : AnswerTo q (broughtBack q n memory) (end .line)
-    answer = right-answer q good sends n (λ some. refl) (c .least) (c .most) memory (c .words)
-
-    is-accepted : AcceptedFrom q n memory (sent n memory q .line)
-    is-accepted =
-        let is = answer-is-accepted q good sends 32 (good-values q good) (broughtBack q n memory) (end .line) answer in
-        subst (AcceptedFrom q n memory) (sym (ap (λ (s : Standing). s .line) (sent-good n memory q good)))
-        (record { accepted = ap numberOf (is .0) ∙ accepted-reading q (broughtBack q n memory) (answer .fitting); reading = is .0; values = is .1 })
-
-    -- the words that come back are words
-    sent-wide : (i : ℕ) → getD (sent n memory q .line) i 0 < 65536
-    sent-wide i =
-        subst (λ (l : List ℕ). getD l i 0 < 65536) (sym (ap (λ (s : Standing). s .line) (sent-good n memory q good) ∙ answer .written))
-        (line-wide (answerBytes q (broughtBack q n memory) 0) i)
-
-    still-chain : Chain n (sent n memory q .memory)
-    still-chain =
-        subst (Chain n) (sym (ap (λ (s : Standing). s .memory) (sent-good n memory q good)))
-        (record {
-          least = c .least;
-          most = c .most;
-          size = hops-memory n n (standing memory (commandLine q)) ∙ c .size;
-          words = still-registers q good sends n (λ some. refl) (c .least) (c .most) memory (c .words) (c .size);
-        })
-
-  wide-either : (t : Bool) → goodQuestion q ≡ t → (i : ℕ) → getD (sent n memory q .line) i 0 < 65536
-  wide-either true good i = sent-wide good i
-  wide-either false bad i = subst (λ (l : List ℕ). getD l i 0 < 65536) (sym (ap (λ (s : Standing). s .line) (sent-bad n memory q bad))) (omega arith)
-
-  chain-either : (t : Bool) → goodQuestion q ≡ t → Chain n (sent n memory q .memory)
-  chain-either true good = still-chain good
-  chain-either false bad = subst (Chain n) (sym (ap (λ (s : Standing). s .memory) (sent-bad n memory q bad))) c
-
-  pub chain-after : Chain n (sent n memory q .memory)
-  chain-after = chain-either (goodQuestion q) refl
-
-  -- the entry with its answer fits, and keeps the rules
-  pub answered-fits : Fits (withWords e (sent n memory q .line))
-  answered-fits = record {
-    kind = fits .kind;
-    reg = fits .reg;
-    device = fits .device;
-    seed = fits .seed;
-    value = fits .value;
-    words = wide-either (goodQuestion q) refl;
-  }
-
-  pub answered-keeps : keepsRules h e ≡ true → keepsRules h (withWords e (sent n memory q .line)) ≡ true
-  unfolding keepsRules
-  answered-keeps rules =
-      let number = answer-length q n memory in
-      let few = le-leb (length (sent n memory q .line)) 140 (omega (arith, number, few-words q)) in
-      let kind = and-right (leb (length (e .words)) 140) (leb (e .kind) 4) (and-left _ (unusedAreZero q) rules) in
-      let unused = and-right (leb (length (e .words)) 140 && leb (e .kind) 4) (unusedAreZero q) rules in
-      ap (λ (t : Bool). t && leb (e .kind) 4 && unusedAreZero q) few ∙ ap₂ (λ (t u : Bool). t && u) kind unused
-
-  -- with what follows it
-  pub one-from-chain : (es : List Entry) → FromChain h (sent n memory q .memory) es → FromChain h memory (withWords e (sent n memory q .line) ∷ es)
-  one-from-chain es later = by-test (goodQuestion q) refl
-    where
-      by-test : (t : Bool) → goodQuestion q ≡ t → FromChain h memory (withWords e (sent n memory q .line) ∷ es)
-      by-test true good =
-          answered-good memory (sent n memory q .memory) (withWords e (sent n memory q .line)) es good (is-accepted good)
-          (λ k i inside. ap (λ (s : Standing). held (s .memory) k i) (sent-good n memory q good)
-          ∙ held-after q good sends n (λ some. refl) (c .least) (c .most) memory (c .words) (c .size) k i inside) later
-      by-test false bad =
-          not-sent memory (withWords e (sent n memory q .line)) es bad (ap (λ (s : Standing). s .line) (sent-bad n memory q bad))
-          (subst (λ (m : List ℕ). FromChain h m es) (ap (λ (s : Standing). s .memory) (sent-bad n memory q bad)) later)
+use Rattle.rehearsal.specs.Accepted.{FromChain}
+use Rattle.rehearsal.specs.Accepted.FromChain.{none as no-more}
+use Rattle.rehearsal.proofs.OneAccepted.{Chain, chain-after, answered-fits, answered-keeps, one-from-chain}
 
 -- ---- all entries
 

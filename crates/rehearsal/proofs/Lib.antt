@@ -1,5 +1,8 @@
 pub mod Sending
+mod Counting
 mod Answering
+mod FromPowerOn
 pub mod Rehearsing
+pub mod OneAccepted
 pub mod Accepted
 pub mod Agree

@@ -104,16 +104,31 @@ module _ (test : ℕ → Bool) (line : List ℕ) where
       by-answer (At k) s = absurd (true≢false (sym (h k (s .from) (s .below)) ∙ s .fails))
       by-answer Nowhere s = refl
 
-  -- a block in which no place is found is passed over
-  pub block-over : (i n end : ℕ) → i + n ≤ end → isNowhere (firstFailing test line i (i + n - i)) ≡ true
-      → firstFailing test line (i + n) (end - (i + n)) ≡ firstFailing test line i (end - i)
-  block-over i n end h e =
-      let size : i + n - i ≡ n = omega arith in
-      let rest : n + (end - (i + n)) ≡ end - i = omega arith in
-      let none = is-nowhere (firstFailing test line i n) (ap (λ (k : ℕ). isNowhere (firstFailing test line i k)) (sym size) ∙ e) in
-      sym (passed-over i n (end - (i + n)) (nowhere-passes i n none)) ∙ ap (firstFailing test line i) rest
+  -- what passes up to a place is passed over
+  pub skipped : (i k end : ℕ) → i ≤ k → k ≤ end → firstFailing test line i (k - i) ≡ Nowhere → firstFailing test line k (end - k) ≡ firstFailing test line i (end - i)
+  skipped i k end lo hi none =
+      let size : i + (k - i) ≡ k = omega arith in
+      let rest : k - i + (end - k) ≡ end - i = omega arith in
+      sym (passed-over i (k - i) (end - k) (nowhere-passes i (k - i) none) ∙ ap (λ (j : ℕ). firstFailing test line j (end - k)) size)
+      ∙ ap (firstFailing test line i) rest
 
--- where every word between the ends is a nibble's, MANCHESTER finds no place
+  -- a block in which no place is found passes as well
+  pub block-on : (i k n : ℕ) → i ≤ k → firstFailing test line i (k - i) ≡ Nowhere → isNowhere (firstFailing test line k (k + n - k)) ≡ true
+      → firstFailing test line i (k + n - i) ≡ Nowhere
+  block-on i k n lo none block =
+      sym (skipped i k (k + n) lo (omega arith) none) ∙ is-nowhere (firstFailing test line k (k + n - k)) block
+
+-- where one test is the stricter, what passes it passes the other
+pub weaker : (strict test : ℕ → Bool) → ((w : ℕ) → strict w ≡ true → test w ≡ true) → (line : List ℕ) (i n : ℕ)
+    → firstFailing strict line i n ≡ Nowhere → firstFailing test line i n ≡ Nowhere
+weaker strict test also line i n none =
+    passes-nowhere test line i n (λ j lo hi. also (getD line j 0) (nowhere-passes strict line i n none j lo hi))
+
+-- where every word between the ends is a nibble's, MANCHESTER finds no place; and a place where not
 pub nibbles-nowhere : (line : List ℕ) → allNibbles line ≡ true → firstNoNibble line ≡ Nowhere
 unfolding allNibbles
 nibbles-nowhere line e = is-nowhere (firstNoNibble line) e
+
+pub nowhere-nibbles : (line : List ℕ) → firstNoNibble line ≡ Nowhere → allNibbles line ≡ true
+unfolding allNibbles
+nowhere-nibbles line e = ap isNowhere e

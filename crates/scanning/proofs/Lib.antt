@@ -1,4 +1,5 @@
 pub mod FirstPlace
+mod NoMisfits
 pub mod Marks
 pub mod Whole
 pub mod Agree

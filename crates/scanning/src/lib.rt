@@ -4,11 +4,13 @@ use characters::PREAMBLE;
 use characters::STOP;
 use characters::is_nibble;
 ghost use mathlib.Core.Path.{_≡_};
-ghost use mathlib.Core.Bool.{cond};
 ghost use Prim.Native.Nat.{_≤_, _-_};
+ghost use lib.Dec.{eqb};
 ghost use lib.ListN.{length};
+ghost use Rattle.characters.specs.Nibble.{isNibble};
 ghost use Rattle.scanning.specs.Place.{testOf, firstFailing, firstNoCharacter, firstNoNibble, isNowhere, allNibbles};
 ghost use Rattle.scanning.specs.Frame.{framed};
+ghost use Rattle.scanning.specs.declared.Place.the-variants.{Nowhere};
 
 // A place of a line, counted in words from 0.
 pub enum Place {
@@ -31,35 +33,36 @@ fn passes(row: Row, w: u16) -> bool
     }
 }
 
-// 0 for a word that passes, 1 for one that fails.
-fn mark(row: Row, w: u16) -> u16
-    ensures { λ r. ⌜ r ≡ cond (testOf row w) 0 1 ⌝ }
+// What keeps a word from being a nibble's, by bits: high bits, start, stops and parity that are not as in one, and bits that are not followed by
+// their complement. 0 for a nibble's word.
+fn misfits(w: u16) -> u16
+    ensures { λ r. ⌜ eqb r 0 ≡ isNibble w ⌝ }
 {
-    if passes(row, w) { 0 } else { 1 }
+    ((w ^ 0xC00) & 0xFE01) | ((w ^ (w / 2) ^ 0xAA) & 0xAA)
 }
 
-// Whether every word from one place up to another passes. No word stops the loop, so that many are looked at at a time.
-fn all_pass(line: &[u16], row: Row, from: usize, to: usize) -> bool
+// Whether every word from one place up to another is a nibble's. No word stops the loop, so that many are looked at at a time.
+fn are_nibbles(line: &[u16], from: usize, to: usize) -> bool
     requires { ⌜ to ≤ length (now line) ⌝ }
-    ensures { λ r. ⌜ r ≡ isNowhere (firstFailing (testOf row) (now (line .entry)) from (to - from)) ⌝ }
+    ensures { λ r. ⌜ r ≡ isNowhere (firstFailing isNibble (now (line .entry)) from (to - from)) ⌝ }
 {
     let mut bad: u16 = 0;
     let mut i = from;
     while i < to {
-        bad = bad | mark(row, line[i]);
+        bad = bad | misfits(line[i]);
         i += 1;
     }
     bad == 0
 }
 
-// A place before which all words pass, sixteen at a time.
-fn pass_over(line: &[u16], row: Row, from: usize, to: usize) -> usize
+// A place up to which all words are nibbles', sixteen at a time.
+fn pass_nibbles(line: &[u16], from: usize, to: usize) -> usize
     requires { ⌜ (from ≤ to) × (to ≤ length (now line)) ⌝ }
-    ensures { λ r. ⌜ firstFailing (testOf row) (now (line .entry)) r (to - r) ≡ firstFailing (testOf row) (now (line .entry)) from (to - from) ⌝ }
+    ensures { λ r. ⌜ (from ≤ r) × (r ≤ to) × (firstFailing isNibble (now (line .entry)) from (r - from) ≡ Nowhere) ⌝ }
 {
     let mut i = from;
     while 16 <= to - i {
-        if !all_pass(line, row, i, i + 16) {
+        if !are_nibbles(line, i, i + 16) {
             return i;
         }
         i += 16;
@@ -69,10 +72,10 @@ fn pass_over(line: &[u16], row: Row, from: usize, to: usize) -> usize
 
 // The first place from one up to another whose word fails the row's test.
 fn first_failing(line: &[u16], row: Row, from: usize, to: usize) -> Place
-    requires { ⌜ (from ≤ to) × (to ≤ length (now line)) ⌝ }
+    requires { ⌜ to ≤ length (now line) ⌝ }
     ensures { λ r. ⌜ r ≡ firstFailing (testOf row) (now (line .entry)) from (to - from) ⌝ }
 {
-    let mut i = pass_over(line, row, from, to);
+    let mut i = from;
     while i < to {
         if !passes(row, line[i]) {
             return Place::At(i);
@@ -82,11 +85,18 @@ fn first_failing(line: &[u16], row: Row, from: usize, to: usize) -> Place
     Place::Nowhere
 }
 
-// The first place whose word is no character.
+// The first place whose word is no character. A nibble is a character: behind the first word, nibbles are passed over.
 pub fn first_no_character(line: &[u16]) -> Place
     ensures { λ r. ⌜ r ≡ firstNoCharacter (now (line .entry)) ⌝ }
 {
-    first_failing(line, Row::Character, 0, line.len())
+    if line.len() == 0 {
+        return Place::Nowhere;
+    }
+    if !is_character(line[0]) {
+        return Place::At(0);
+    }
+    let from = pass_nibbles(line, 1, line.len());
+    first_failing(line, Row::Character, from, line.len())
 }
 
 // The first place between the ends whose word is no nibble.
@@ -96,7 +106,8 @@ pub fn first_no_nibble(line: &[u16]) -> Place
     if line.len() < 2 {
         return Place::Nowhere;
     }
-    first_failing(line, Row::Manchester, 1, line.len() - 1)
+    let from = pass_nibbles(line, 1, line.len() - 1);
+    first_failing(line, Row::Manchester, from, line.len() - 1)
 }
 
 // Whether every word between the ends is a nibble's.
@@ -106,7 +117,7 @@ pub fn all_nibbles(line: &[u16]) -> bool
     if line.len() < 2 {
         return true;
     }
-    all_pass(line, Row::Manchester, 1, line.len() - 1)
+    are_nibbles(line, 1, line.len() - 1)
 }
 
 // Whether the first word is the preamble and the last the stop character.

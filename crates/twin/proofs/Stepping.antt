@@ -12,7 +12,7 @@ use Rattle.passage.specs.Pass.{changeOf}
 use Rattle.passage.specs.declared.pass.Change.{Change}
 use Rattle.passage.specs.declared.pass.Change.the-variants.{Nothing, Store}
 use Rattle.passage.proofs.EqualLength.{length-handed}
-use Rattle.twin.specs.Step.{registersOf, withChange, Standing, standing, hop, hops, Hopped, steppedOf, outOf, memoryAfter, Done}
+use Rattle.twin.specs.Step.{registersOf, withChange, Standing, standing, hop, hops, Hopped, steppedOf, outLeft, memoryAfter, Done}
 use Rattle.twin.specs.declared.step.Stepped.{Stepped}
 use Rattle.twin.specs.declared.step.Stepped.the-variants.{Handed, Twin, Room}
 
@@ -23,7 +23,7 @@ module _ (fits : Bool) (before after : Standing) (out : List ℕ) where
   room = leb (length (before .line)) (length out)
 
   pub turned-away : fits ≡ false → Done fits before after out out (before .memory) Twin
-  unfolding steppedOf outOf memoryAfter room
+  unfolding steppedOf outLeft memoryAfter room
   turned-away e = record {
     says = sym (ap (λ (t : Bool). cond t (cond room Handed Room) Twin) e);
     leaves = sym (ap (λ (t : Bool). cond t (cond room (atFront (after .line) out) out) out) e);
@@ -31,7 +31,7 @@ module _ (fits : Bool) (before after : Standing) (out : List ℕ) where
   }
 
   pub no-room : fits ≡ true → length out < length (before .line) → Done fits before after out out (before .memory) Room
-  unfolding steppedOf outOf memoryAfter room
+  unfolding steppedOf outLeft memoryAfter room
   no-room e short =
       let less = lt-leb (length (before .line)) (length out) short in
       record {
@@ -42,7 +42,7 @@ module _ (fits : Bool) (before after : Standing) (out : List ℕ) where
 
   pub handed-on : (outAfter memory : List ℕ) → fits ≡ true → length (before .line) ≤ length out → length (after .line) ≡ length (before .line)
       → outAfter ≡ after .line ++ drop (length (before .line)) out → memory ≡ after .memory → Done fits before after out outAfter memory Handed
-  unfolding steppedOf outOf memoryAfter room
+  unfolding steppedOf outLeft memoryAfter room
   handed-on outAfter memory e enough size leaves remembers =
       let fit = le-leb (length (before .line)) (length out) enough in
       record {
@@ -65,7 +65,7 @@ module _ (before after : Standing) (out outAfter memoryLeft : List ℕ) (r : Ste
   says-handed = done .says ∙ ap₂ (λ (t u : Bool). cond t (cond u Handed Room) Twin) good enough
 
   pub leaves-line : outAfter ≡ atFront (after .line) out
-  unfolding outOf
+  unfolding outLeft
   leaves-line = done .leaves ∙ ap₂ (λ (t u : Bool). cond t (cond u (atFront (after .line) out) out) out) good enough
 
   pub leaves-memory : memoryLeft ≡ after .memory

@@ -50,8 +50,8 @@ unfoldable pub steppedOf : (fits : Bool) (line out : List ℕ) → Stepped
 steppedOf fits line out = cond fits (cond (leb (length line) (length out)) Handed Room) Twin
 
 -- what a call leaves: a line at the front of the output and the memory changed, or both as they were
-unfoldable pub outOf : (fits : Bool) (line out after : List ℕ) → List ℕ
-outOf fits line out after = cond fits (cond (leb (length line) (length out)) (atFront after out) out) out
+unfoldable pub outLeft : (fits : Bool) (line out after : List ℕ) → List ℕ
+outLeft fits line out after = cond fits (cond (leb (length line) (length out)) (atFront after out) out) out
 
 unfoldable pub memoryAfter : (fits : Bool) (line out memory after : List ℕ) → List ℕ
 memoryAfter fits line out memory after = cond fits (cond (leb (length line) (length out)) after memory) memory
@@ -59,7 +59,7 @@ memoryAfter fits line out memory after = cond fits (cond (leb (length line) (len
 -- a chain, its memory, and devices stepped: what a call says and leaves
 pub record Done (fits : Bool) (before after : Standing) (out outAfter memoryLeft : List ℕ) (r : Stepped) : Type 0 where
   pub says : r ≡ steppedOf fits (before .line) out
-  pub leaves : outAfter ≡ outOf fits (before .line) out (after .line)
+  pub leaves : outAfter ≡ outLeft fits (before .line) out (after .line)
   pub remembers : memoryLeft ≡ memoryAfter fits (before .line) out (before .memory) (after .memory)
 
 abbrev pub standing : (memory line : List ℕ) → Standing

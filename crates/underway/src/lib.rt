@@ -1,178 +1,30 @@
-// A command on its way along the chain: held to what the devices before would have left, and handed on (document 01, "The twin"). The bytes
-// are laid into a buffer one behind the other; what lays them is not total, and private here.
+// A command on its way along the chain (document 01, "The twin"): held to what the devices before would have left, and handed on.
+mod command;
 mod compare;
+mod pieces;
 
+use command::lay;
 use compare::is_line_of;
-use lines::read::byte_at;
-use pec::pec;
-use questions::question::HELLOALL;
+use pieces::push_carried;
+use pieces::push_value;
 use questions::question::Question;
 use questions::question::WRITEDEVICE;
 use questions::question::is_good;
 use questions::question::shape_of;
-use std::num::wrapping_add_u8;
 use writing::put_line;
 ghost use mathlib.Core.Path.{_≡_};
-ghost use mathlib.Core.List.{_∷_, [], _++_};
-ghost use Prim.Native.Nat.{_+_, _-_, _*_, _%_, _≤_, _<_, suc};
-ghost use lib.ListN.{length, take};
-ghost use Rattle.ground.specs.Sweep.{tabulated};
-ghost use Rattle.lines.specs.Line.{byteAt, lineOf};
-ghost use Rattle.questions.specs.Shape.{shapeOf};
-ghost use Rattle.questions.specs.Bytes.{lowHigh, sealed, fillPairs};
-ghost use Rattle.underway.specs.OnTheWay.{onTheWay, wireOf};
-ghost use Rattle.underway.specs.Lay.{Laid, Holds};
 ghost use mathlib.Core.Bool.{true};
+ghost use mathlib.Core.List.{_++_};
+ghost use Prim.Native.Nat.{_+_, _*_, _≤_, _<_, suc};
+ghost use lib.ListN.{length};
 ghost use Rattle.ground.specs.Same.{same};
+ghost use Rattle.lines.specs.Line.{lineOf};
 ghost use Rattle.writing.specs.PutLine.{outOf};
 ghost use Rattle.questions.specs.Question.{goodQuestion};
+ghost use Rattle.questions.specs.Bytes.{lowHigh};
+ghost use Rattle.underway.specs.OnTheWay.{onTheWay, wireOf};
+ghost use Rattle.underway.specs.Lay.{Holds};
 ghost use Rattle.underway.specs.TakeUp.{mayCarry, possible, TakenUp};
-
-fn push(bytes: &mut [u8], at: usize, byte: u8) -> usize
-    requires { ⌜ at < length (now bytes) ⌝ }
-    ensures { λ r. ⌜ Laid (now (bytes .entry)) at (byte ∷ []) (now (bytes .exit)) r ⌝ }
-{
-    bytes[at] = byte;
-    at + 1
-}
-
-// A register's value: low byte, high byte.
-fn push_value(bytes: &mut [u8], at: usize, value: u16) -> usize
-    requires { ⌜ at + 2 ≤ length (now bytes) ⌝ }
-    ensures { λ r. ⌜ Laid (now (bytes .entry)) at (lowHigh value) (now (bytes .exit)) r ⌝ }
-{
-    let middle = push(bytes, at, (value % 256) as u8);
-    push(bytes, middle, (value / 256) as u8)
-}
-
-// The value bytes of a line that carries some: directly after the register byte.
-fn push_carried(bytes: &mut [u8], at: usize, line: &[u16], count: usize) -> usize
-    requires { ⌜ at + count ≤ length (now bytes) ⌝ }
-    ensures { λ r. ⌜ Laid (now (bytes .entry)) at (tabulated (byteAt (now (line .entry))) count 2) (now (bytes .exit)) r ⌝ }
-{
-    let mut end = at;
-    let mut i = 0;
-    while i < count {
-        end = push(bytes, end, byte_at(line, 2 + i));
-        i += 1;
-    }
-    end
-}
-
-fn push_all(bytes: &mut [u8], at: usize, more: &[u8]) -> usize
-    requires { ⌜ at + length (now more) ≤ length (now bytes) ⌝ }
-    ensures { λ r. ⌜ Laid (now (bytes .entry)) at (now (more .entry)) (now (bytes .exit)) r ⌝ }
-{
-    let mut end = at;
-    let mut i = 0;
-    while i < more.len() {
-        end = push(bytes, end, more[i]);
-        i += 1;
-    }
-    end
-}
-
-fn push_pair(bytes: &mut [u8], at: usize) -> usize
-    requires { ⌜ at + 2 ≤ length (now bytes) ⌝ }
-    ensures { λ r. ⌜ Laid (now (bytes .entry)) at (0xC2 ∷ 0xD3 ∷ []) (now (bytes .exit)) r ⌝ }
-{
-    let middle = push(bytes, at, 0xC2);
-    push(bytes, middle, 0xD3)
-}
-
-fn push_pairs(bytes: &mut [u8], at: usize, pairs: usize) -> usize
-    requires { ⌜ at + 2 * pairs ≤ length (now bytes) ⌝ }
-    ensures { λ r. ⌜ Laid (now (bytes .entry)) at (fillPairs pairs) (now (bytes .exit)) r ⌝ }
-{
-    let mut end = at;
-    let mut i = 0;
-    while i < pairs {
-        end = push_pair(bytes, end);
-        i += 1;
-    }
-    end
-}
-
-// The PEC of what stands in front, and the alive byte where it is on.
-fn seal(q: Question, added: u8, bytes: &mut [u8], at: usize) -> usize
-    requires { ⌜ at + 2 ≤ length (now bytes) ⌝ }
-    ensures { λ r. ⌜ Holds (now (bytes .exit)) r (sealed q added (take at (now (bytes .entry)))) ⌝ }
-{
-    let check = pec(&bytes[..at]);
-    let end = push(bytes, at, check);
-    if q.alive != 1 {
-        return end;
-    }
-    push(bytes, end, counted_up(q.seed, added))
-}
-
-// The alive byte counted up: after FFh comes 00h.
-fn counted_up(seed: u8, added: u8) -> u8
-    ensures { λ r. ⌜ r ≡ (seed + added) % 256 ⌝ }
-{
-    wrapping_add_u8(seed, added)
-}
-
-// First byte and register.
-fn lay_head(first: u8, reg: u8, bytes: &mut [u8]) -> usize
-    requires { ⌜ 2 ≤ length (now bytes) ⌝ }
-    ensures { λ r. ⌜ Holds (now (bytes .exit)) r (first ∷ reg ∷ []) ⌝ }
-{
-    let at = push(bytes, 0, first);
-    push(bytes, at, reg)
-}
-
-fn lay_hello(first: u8, count: u8, bytes: &mut [u8]) -> usize
-    requires { ⌜ 3 ≤ length (now bytes) ⌝ }
-    ensures { λ r. ⌜ Holds (now (bytes .exit)) r (first ∷ 0 ∷ count ∷ []) ⌝ }
-{
-    let at = lay_head(first, 0, bytes);
-    push(bytes, at, count)
-}
-
-fn lay_write(first: u8, q: Question, added: u8, bytes: &mut [u8]) -> usize
-    requires { ⌜ 6 ≤ length (now bytes) ⌝ }
-    ensures { λ r. ⌜ Holds (now (bytes .exit)) r (sealed q added (first ∷ q .reg ∷ lowHigh (q .value))) ⌝ }
-{
-    let at = lay_head(first, q.reg, bytes);
-    let end = push_value(bytes, at, q.value);
-    seal(q, added, bytes, end)
-}
-
-fn lay_read(first: u8, q: Question, added: u8, wire: &[u8], pairs: usize, bytes: &mut [u8]) -> usize
-    requires { ⌜ length (now wire) + 2 * pairs + 5 ≤ length (now bytes) ⌝ }
-    ensures { λ r. ⌜ Holds (now (bytes .exit)) r (sealed q added (first ∷ q .reg ∷ (now (wire .entry) ++ (0 ∷ []))) ++ fillPairs pairs) ⌝ }
-{
-    let at = lay_head(first, q.reg, bytes);
-    let check = push_all(bytes, at, wire);
-    let end = push(bytes, check, 0);
-    let fill = seal(q, added, bytes, end);
-    push_pairs(bytes, fill, pairs)
-}
-
-fn left_of(values: usize, gone: usize) -> usize
-    ensures { λ r. ⌜ r ≡ values - gone ⌝ }
-{
-    if values < gone { 0 } else { values - gone }
-}
-
-// A command on its way, at the front of the buffer.
-fn lay(q: Question, count: u8, added: u8, wire: &[u8], bytes: &mut [u8]) -> usize
-    requires { ⌜ (shapeOf q .first < 256) × (shapeOf q .values ≤ 32) × (length (now wire) ≤ 64) × (length (now bytes) ≡ 136) ⌝ }
-    ensures { λ r. ⌜ Holds (now (bytes .exit)) r (onTheWay q count added (now (wire .entry))) ⌝ }
-{
-    let s = shape_of(q);
-    let first = (s.first % 256) as u8;
-    let kind = q.kind;
-    if kind == HELLOALL {
-        return lay_hello(first, count, bytes);
-    }
-    if kind <= WRITEDEVICE {
-        return lay_write(first, q, added, bytes);
-    }
-    let pairs = left_of(s.values, wire.len() / 2);
-    lay_read(first, q, added, wire, pairs, bytes)
-}
 
 fn buffer() -> [u8; 136]
     ensures { λ r. ⌜ length r ≡ 136 ⌝ }

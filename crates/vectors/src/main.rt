@@ -1,4 +1,6 @@
 // Prints the worked numbers of document 01, as the proved crates work them out; the gate compares what it prints with `stdout`.
+mod heard;
+mod longest;
 mod show;
 mod volts;
 mod wire;
@@ -123,9 +125,9 @@ fn main() {
     nibbles();
     whole_lines();
     wire::commands();
-    wire::answers();
-    wire::longest();
-    wire::fifteen();
+    heard::answers();
+    longest::longest();
+    longest::fifteen();
     volts::worked();
     volts::sweeps();
 }

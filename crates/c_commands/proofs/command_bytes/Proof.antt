@@ -1,72 +1,113 @@
--- `command_bytes` meets its contract: the buffer's part has room for a command where the lent bytes have, and its front is packed.
-use mathlib.Core.Path.{sym}
+-- `command_bytes` meets its contract: turned away it has touched nothing; else there is room for what is laid, and that is the command.
+use mathlib.Core.Path.{_≡_, sym, ap, _∙_}
+use mathlib.Core.Bool.{true}
+use Prim.Native.Nat.{_≤_, _<_}
 use native.Mathlib.Omega.{arith}
-use lib.Seq.{length-take-le}
-use lib.ListN.{length-take}
-use Rattle.c_commands.proofs.Bytes.{few, within, done}
+use borrow.Author.Tests.{not-true, not-false}
+use Rattle.questions.specs.Question.{goodQuestion}
+use Rattle.questions.specs.declared.question.Shape.{Shape}
+use Rattle.questions.proofs.Good.{good-values}
+use Rattle.commands.proofs.Taken.{head-within, head-length, head-short}
+use Rattle.c_commands.proofs.Answered.{bad-question, few-words, no-room, room-for, command-laid}
 use borrow.Author.Needs.{needs}
 use Rattle.c_commands.proofs.command_bytes.Statement.{statement}
 use Rattle.c_commands.proofs.command_bytes.Tie as tie
 
-blank-line-requires : tie.Need-blank-line-requires
-blank-line-requires c κs = search needs
+is-good-requires : tie.Need-is-good-requires
+is-good-requires c κs = search needs
 
-room-in-requires : tie.Need-room-in-requires
-room-in-requires c κs = search needs
+returns : tie.Need-returns
+returns c =
+    let a = c .before .before .before .args in
+    bad-question (a .q) (a .out .now) (sym (c .before .is-good .ensures) ∙ not-true (c .before .is-good .result) (c .if1 .taken))
 
-array-borrow-prefix-words : tie.Need-array-borrow-prefix-words
-array-borrow-prefix-words c = search needs
+shape-of-requires : tie.Need-shape-of-requires
+shape-of-requires c κs = search needs
 
-slice-aggregate-write-command : tie.Need-slice-aggregate-write-command
-slice-aggregate-write-command c = simp length-take (omega (arith, c .before .room-in .ensures, c .before .before .blank-line .ensures))
+returns-2 : tie.Need-returns-2
+returns-2 c =
+    let a = c .before .before .before .before .before .args in
+    let asked = c .before .before .before .is-good in
+    let good : goodQuestion (a .q) ≡ true = sym (asked .ensures) ∙ not-false (asked .result) (c .before .before .if1 .left) in
+    let shape = c .before .shape-of in
+    no-room (a .q) (a .out .now) good (shape .result) (shape .ensures) (c .if2 .taken)
 
-write-command-requires : tie.Need-write-command-requires
-write-command-requires c κs = search needs
+head-of-requires : tie.Need-head-of-requires
+head-of-requires c κs = search needs
 
-words-issued-requires : tie.Need-words-issued-requires
-words-issued-requires c κs = search needs
-
-array-share-prefix-words : tie.Need-array-share-prefix-words
-array-share-prefix-words c =
+array-share-prefix-bytes : tie.Need-array-share-prefix-bytes
+array-share-prefix-bytes c =
     let a = c .before .before .before .before .before .before .before .args in
-    within (a .q) (c .before .before .before .before .before .blank-line .result) (a .out .now) (c .before .before .before .before .room-in .result) (c .before .before .before .before .before .blank-line .ensures) (c .before .before .before .before .room-in .ensures) _ (c .before .before .write-command .result) (c .before .before .write-command .ensures) (c .words-issued .result) (c .words-issued .ensures) (c .before .before .write-command .kept .1 .0)
+    let asked = c .before .before .before .before .before .is-good in
+    let good : goodQuestion (a .q) ≡ true = sym (asked .ensures) ∙ not-false (asked .result) (c .before .before .before .before .if1 .left) in
+    let head = c .before .head-of in
+    head-within (a .q) good (head .result) (head .ensures)
 
-slice-aggregate-pack : tie.Need-slice-aggregate-pack
-slice-aggregate-pack c =
+slice-aggregate-lay-line : tie.Need-slice-aggregate-lay-line
+slice-aggregate-lay-line c =
     let a = c .before .before .before .before .before .before .before .before .args in
-    sym (length-take-le (c .before .words-issued .result) _ (within (a .q) (c .before .before .before .before .before .before .blank-line .result) (a .out .now) (c .before .before .before .before .before .room-in .result) (c .before .before .before .before .before .before .blank-line .ensures) (c .before .before .before .before .before .room-in .ensures) _ (c .before .before .before .write-command .result) (c .before .before .before .write-command .ensures) (c .before .words-issued .result) (c .before .words-issued .ensures) (c .before .before .before .write-command .kept .1 .0)))
+    let asked = c .before .before .before .before .before .before .is-good in
+    let good : goodQuestion (a .q) ≡ true = sym (asked .ensures) ∙ not-false (asked .result) (c .before .before .before .before .before .if1 .left) in
+    let head = c .before .before .head-of in
+    sym (head-length (a .q) good (head .result) (head .ensures))
 
-pack-requires : tie.Need-pack-requires
-pack-requires c κs = search needs
+lay-line-requires : tie.Need-lay-line-requires
+lay-line-requires c κs =
+    let a = c .before .before .before .before .before .before .before .before .before .args in
+    let asked = c .before .before .before .before .before .before .before .is-good in
+    let good : goodQuestion (a .q) ≡ true = sym (asked .ensures) ∙ not-false (asked .result) (c .before .before .before .before .before .before .if1 .left) in
+    let small : a .q .seed < 256 = omega (arith, c .before .before .before .before .before .before .before .before .before .good .0) in
+    let head = c .before .before .before .head-of in
+    let shape = c .before .before .before .before .before .shape-of in (
+      head-short (a .q) good (head .result) (head .ensures),
+      omega (arith, ap (λ (s : Shape). s .values) (shape .ensures), good-values (a .q) good),
+      room-for (a .q) (a .out .now) good (shape .result) (shape .ensures) small (head .result) (head .ensures) (c .before .before .before .before .if2 .left),
+    )
 
-packed-issued-requires : tie.Need-packed-issued-requires
-packed-issued-requires c κs =
+cast-result : tie.Need-cast-result
+cast-result c =
     let a = c .before .before .before .before .before .before .before .before .before .before .before .before .args in
-    let most = few (a .q) (c .before .before .before .before .before .before .before .before .before .before .blank-line .result) (a .out .now) (c .before .before .before .before .before .before .before .before .before .room-in .result) (c .before .before .before .before .before .before .before .before .before .before .blank-line .ensures) (c .before .before .before .before .before .before .before .before .before .room-in .ensures) _ (c .before .before .before .before .before .before .before .write-command .result) (c .before .before .before .before .before .before .before .write-command .ensures) in
-    omega (arith, most, c .before .before .before .before .before .before .before .before .before .room-in .ensures)
+    let asked = c .before .before .before .before .before .before .before .before .before .before .is-good in
+    let good : goodQuestion (a .q) ≡ true = sym (asked .ensures) ∙ not-false (asked .result) (c .before .before .before .before .before .before .before .before .before .if1 .left) in
+    let shape = c .before .before .before .before .before .before .before .before .shape-of in
+    let few : shape .result .words ≤ 140 = few-words (a .q) (a .out .now) good (shape .result) (shape .ensures) in
+    omega arith
+
+mul-result : tie.Need-mul-result
+mul-result c =
+    let a = c .before .before .before .before .before .before .before .before .before .before .before .before .args in
+    let asked = c .before .before .before .before .before .before .before .before .before .before .is-good in
+    let good : goodQuestion (a .q) ≡ true = sym (asked .ensures) ∙ not-false (asked .result) (c .before .before .before .before .before .before .before .before .before .if1 .left) in
+    let shape = c .before .before .before .before .before .before .before .before .shape-of in
+    let few : shape .result .words ≤ 140 = few-words (a .q) (a .out .now) good (shape .result) (shape .ensures) in
+    omega arith
 
 same-length : tie.Need-same-length
 same-length c = search needs
 
-returns : tie.Need-returns
-returns c =
-    let a = c .before .before .before .before .before .before .before .before .before .before .before .before .before .args in
-    done (a .q) (c .before .before .before .before .before .before .before .before .before .before .before .blank-line .result) (a .out .now) (c .before .before .before .before .before .before .before .before .before .before .room-in .result) (c .before .before .before .before .before .before .before .before .before .before .before .blank-line .ensures) (c .before .before .before .before .before .before .before .before .before .before .room-in .ensures) _ (c .before .before .before .before .before .before .before .before .write-command .result) (c .before .before .before .before .before .before .before .before .write-command .ensures)
-    (c .before .before .before .before .before .before .words-issued .result) (c .packed-issued .result) _ (c .before .before .before .before .before .before .words-issued .ensures) (c .before .before .before .pack .ensures) (c .packed-issued .ensures)
+returns-3 : tie.Need-returns-3
+returns-3 c =
+    let a = c .before .before .before .before .before .before .before .before .before .before .before .before .args in
+    let asked = c .before .before .before .before .before .before .before .before .before .before .is-good in
+    let good : goodQuestion (a .q) ≡ true = sym (asked .ensures) ∙ not-false (asked .result) (c .before .before .before .before .before .before .before .before .before .if1 .left) in
+    let small : a .q .seed < 256 = omega (arith, c .before .before .before .before .before .before .before .before .before .before .before .before .good .0) in
+    let head = c .before .before .before .before .before .before .head-of in
+    let shape = c .before .before .before .before .before .before .before .before .shape-of in
+    command-laid (a .q) (a .out .now) good (shape .result) (shape .ensures) small (head .result) (head .ensures) _ (c .before .before .before .before .before .before .before .if2 .left) (c .before .before .lay-line .ensures)
 
 pub command-bytes-spec : {M : Type 1} → statement M
 command-bytes-spec =
     tie.close
     (tie.spec
-    blank-line-requires
-    room-in-requires
-    array-borrow-prefix-words
-    slice-aggregate-write-command
-    write-command-requires
-    words-issued-requires
-    array-share-prefix-words
-    slice-aggregate-pack
-    pack-requires
-    packed-issued-requires
+    is-good-requires
+    returns
+    shape-of-requires
+    returns-2
+    head-of-requires
+    array-share-prefix-bytes
+    slice-aggregate-lay-line
+    lay-line-requires
+    cast-result
+    mul-result
     same-length
-    returns)
+    returns-3)

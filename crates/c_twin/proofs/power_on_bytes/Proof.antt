@@ -5,7 +5,8 @@ use native.Mathlib.Omega.{arith}
 use lib.ListN.{length, drop}
 use lib.Seq.{length-take-le}
 use borrow.Author.Tests.{not-true, not-false}
-use Rattle.c_twin.proofs.Bytes.{chain-most, within, part, not-powered, powered}
+use Rattle.c_twin.proofs.Bytes.{chain-most, within}
+use Rattle.c_twin.proofs.PoweredBytes.{part, not-powered, powered}
 use borrow.Author.Needs.{needs}
 use Rattle.c_twin.proofs.power_on_bytes.Statement.{statement}
 use Rattle.c_twin.proofs.power_on_bytes.Tie as tie

@@ -3,7 +3,7 @@ use mathlib.Core.Path.{refl, sym, _∙_}
 use native.Mathlib.Omega.{arith}
 use borrow.Author.Tests.{le-leb, lt-leb, lt-ltb, le-ltb, eq-eqb, ne-eqb, not-true, not-false}
 use Rattle.c_twin.specs.TwinBytes.{stepNumber}
-use Rattle.c_twin.proofs.Bytes.{turned-away, went-on}
+use Rattle.c_twin.proofs.SteppedBytes.{turned-away, went-on}
 use borrow.Author.Needs.{needs}
 use Rattle.c_twin.proofs.step_bytes.Statement.{statement}
 use Rattle.c_twin.proofs.step_bytes.Tie as tie

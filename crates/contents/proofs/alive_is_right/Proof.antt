@@ -1,10 +1,9 @@
 -- `alive_is_right` meets its contract: the byte is held to the wrapped sum of the seed and the devices that act.
 use mathlib.Core.Path.{ap, ap₂, _∙_}
-use Prim.Native.Nat.{_+_, _%_}
+use Prim.Native.Nat.{ℕ, _+_, _%_}
 use native.Mathlib.Omega.{arith}
 use lib.Dec.{eqb}
 use Rattle.lines.specs.Line.{byteAt}
-use Rattle.questions.specs.declared.question.Shape.{Shape}
 use Rattle.questions.proofs.Good.{covered-le}
 use Rattle.contents.proofs.RowLaws.{positive, hello-alive, no-alive, some-alive}
 use borrow.Author.Needs.{needs}
@@ -21,16 +20,13 @@ returns-2 c =
     let a = c .before .before .before .before .before .args in
     no-alive (a .q) (a .line .now) (positive (a .q .kind) (c .before .before .if1 .left)) (c .if2 .taken)
 
-shape-of-requires : tie.Need-shape-of-requires
-shape-of-requires c κs = search needs
-
 add-byte-at : tie.Need-add-byte-at
 add-byte-at c =
     omega (
       arith,
-      ap (λ (s : Shape). s .covered) (c .shape-of .ensures),
-      covered-le (c .before .before .before .before .before .before .args .q),
-      c .before .before .before .before .before .before .good .0,
+      c .before .before .before .before .before .pre .0,
+      covered-le (c .before .before .before .before .before .args .q),
+      c .before .before .before .before .before .good .0,
     )
 
 byte-at-requires : tie.Need-byte-at-requires
@@ -41,11 +37,11 @@ wrapping-add-u8-requires c κs = search needs
 
 returns-3 : tie.Need-returns-3
 returns-3 c =
-    let a = c .before .before .before .before .before .before .before .before .args in
+    let a = c .before .before .before .before .before .before .before .args in
     let l = a .line .now in
     ap₂ eqb (c .before .byte-at .ensures) (c .wrapping-add-u8 .ensures)
-    ∙ ap (λ (s : Shape). eqb (byteAt l (s .covered + 1)) ((a .q .seed + s .acting) % 256)) (c .before .before .shape-of .ensures)
-    ∙ some-alive (a .q) l (positive (a .q .kind) (c .before .before .before .before .before .if1 .left)) (c .before .before .before .if2 .left)
+    ∙ ap₂ (λ (k acting : ℕ). eqb (byteAt l (k + 1)) ((a .q .seed + acting) % 256)) (c .before .before .before .before .before .before .before .pre .0) (c .before .before .before .before .before .before .before .pre .1)
+    ∙ some-alive (a .q) l (positive (a .q .kind) (c .before .before .before .before .if1 .left)) (c .before .before .if2 .left)
 
 pub alive-is-right-spec : {M : Type 1} → statement M
 alive-is-right-spec =
@@ -53,7 +49,6 @@ alive-is-right-spec =
     (tie.spec
     returns
     returns-2
-    shape-of-requires
     add-byte-at
     byte-at-requires
     wrapping-add-u8-requires

@@ -2,14 +2,10 @@
 use mathlib.Core.Path.{sym, ap, _∙_}
 use Prim.Native.Nat.{ℕ}
 use lib.Dec.{eqb}
-use Rattle.questions.specs.declared.question.Shape.{Shape}
 use Rattle.contents.proofs.RowLaws.{positive, first-other, hello-echo, second-other, write-echo, read-echo}
 use borrow.Author.Needs.{needs}
 use Rattle.contents.proofs.echoes.Statement.{statement}
 use Rattle.contents.proofs.echoes.Tie as tie
-
-shape-of-requires : tie.Need-shape-of-requires
-shape-of-requires c κs = search needs
 
 byte-at-requires : tie.Need-byte-at-requires
 byte-at-requires c κs = search needs
@@ -19,23 +15,23 @@ wide-requires c κs = search needs
 
 returns : tie.Need-returns
 returns c =
-    let a = c .before .before .before .before .before .args in
+    let a = c .before .before .before .before .args in
     first-other (a .q) (a .line .now)
-    (λ e. c .if1 .taken (c .before .wide .ensures ∙ c .before .before .byte-at .ensures ∙ e ∙ sym (ap (λ (s : Shape). s .first) (c .before .before .before .shape-of .ensures))))
+    (λ e. c .if1 .taken (c .before .wide .ensures ∙ c .before .before .byte-at .ensures ∙ e ∙ sym (c .before .before .before .before .pre)))
 
 byte-at-requires-2 : tie.Need-byte-at-requires-2
 byte-at-requires-2 c κs = search needs
 
 returns-2 : tie.Need-returns-2
 returns-2 c =
-    let a = c .before .before .before .before .before .before .before .args in
-    let first = sym (c .before .before .before .wide .ensures ∙ c .before .before .before .before .byte-at .ensures) ∙ c .before .before .if1 .left ∙ ap (λ (s : Shape). s .first) (c .before .before .before .before .before .shape-of .ensures) in
+    let a = c .before .before .before .before .before .before .args in
+    let first = sym (c .before .before .before .wide .ensures ∙ c .before .before .before .before .byte-at .ensures) ∙ c .before .before .if1 .left ∙ c .before .before .before .before .before .before .pre in
     ap (λ (x : ℕ). eqb x 0) (c .before .byte-at2 .ensures) ∙ hello-echo (a .q) (a .line .now) first (c .if2 .taken)
 
 returns-3 : tie.Need-returns-3
 returns-3 c =
-    let a = c .before .before .before .before .before .before .before .before .args in
-    let first = sym (c .before .before .before .before .wide .ensures ∙ c .before .before .before .before .before .byte-at .ensures) ∙ c .before .before .before .if1 .left ∙ ap (λ (s : Shape). s .first) (c .before .before .before .before .before .before .shape-of .ensures) in
+    let a = c .before .before .before .before .before .before .before .args in
+    let first = sym (c .before .before .before .before .wide .ensures ∙ c .before .before .before .before .before .byte-at .ensures) ∙ c .before .before .before .if1 .left ∙ c .before .before .before .before .before .before .before .pre in
     second-other (a .q) (a .line .now) first (positive (a .q .kind) (c .before .if2 .left))
     (λ e. c .if3 .taken (c .before .before .byte-at2 .ensures ∙ e))
 
@@ -44,23 +40,22 @@ value-echoes-requires c κs = search needs
 
 returns-4 : tie.Need-returns-4
 returns-4 c =
-    let a = c .before .before .before .before .before .before .before .before .before .before .args in
-    let first = sym (c .before .before .before .before .before .before .wide .ensures ∙ c .before .before .before .before .before .before .before .byte-at .ensures) ∙ c .before .before .before .before .before .if1 .left ∙ ap (λ (s : Shape). s .first) (c .before .before .before .before .before .before .before .before .shape-of .ensures) in
+    let a = c .before .before .before .before .before .before .before .before .before .args in
+    let first = sym (c .before .before .before .before .before .before .wide .ensures ∙ c .before .before .before .before .before .before .before .byte-at .ensures) ∙ c .before .before .before .before .before .if1 .left ∙ c .before .before .before .before .before .before .before .before .before .pre in
     c .value-echoes .ensures
     ∙ write-echo (a .q) (a .line .now) first (positive (a .q .kind) (c .before .before .before .if2 .left)) (c .before .if4 .taken)
     (sym (c .before .before .before .before .byte-at2 .ensures) ∙ c .before .before .if3 .left)
 
 returns-5 : tie.Need-returns-5
 returns-5 c =
-    let a = c .before .before .before .before .before .before .before .before .before .args in
-    let first = sym (c .before .before .before .before .before .wide .ensures ∙ c .before .before .before .before .before .before .byte-at .ensures) ∙ c .before .before .before .before .if1 .left ∙ ap (λ (s : Shape). s .first) (c .before .before .before .before .before .before .before .shape-of .ensures) in
+    let a = c .before .before .before .before .before .before .before .before .args in
+    let first = sym (c .before .before .before .before .before .wide .ensures ∙ c .before .before .before .before .before .before .byte-at .ensures) ∙ c .before .before .before .before .if1 .left ∙ c .before .before .before .before .before .before .before .before .pre in
     read-echo (a .q) (a .line .now) first (c .if4 .left) (sym (c .before .before .before .byte-at2 .ensures) ∙ c .before .if3 .left)
 
 pub echoes-spec : {M : Type 1} → statement M
 echoes-spec =
     tie.close
     (tie.spec
-    shape-of-requires
     byte-at-requires
     wide-requires
     returns

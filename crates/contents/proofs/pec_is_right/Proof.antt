@@ -1,8 +1,8 @@
 -- `pec_is_right` meets its contract: HELLOALL has no PEC, and any other answer's is held to that of the bytes before it.
 use mathlib.Core.Path.{ap, ap₂, _∙_}
+use Prim.Native.Nat.{ℕ}
 use lib.Dec.{eqb}
 use Rattle.lines.specs.Line.{byteAt, pecOver}
-use Rattle.questions.specs.declared.question.Shape.{Shape}
 use Rattle.contents.proofs.RowLaws.{positive, hello-pec, other-pec}
 use borrow.Author.Needs.{needs}
 use Rattle.contents.proofs.pec_is_right.Statement.{statement}
@@ -13,9 +13,6 @@ returns c =
     let a = c .before .before .before .args in
     hello-pec (a .q) (a .line .now) (c .if1 .taken)
 
-shape-of-requires : tie.Need-shape-of-requires
-shape-of-requires c κs = search needs
-
 byte-at-requires : tie.Need-byte-at-requires
 byte-at-requires c κs = search needs
 
@@ -24,12 +21,12 @@ pec-over-requires c κs = search needs
 
 returns-2 : tie.Need-returns-2
 returns-2 c =
-    let a = c .before .before .before .before .before .before .args in
+    let a = c .before .before .before .before .before .args in
     let l = a .line .now in
     ap₂ eqb (c .before .byte-at .ensures) (c .pec-over .ensures)
-    ∙ ap (λ (s : Shape). eqb (byteAt l (s .covered)) (pecOver l 0 (s .covered))) (c .before .before .shape-of .ensures)
-    ∙ other-pec (a .q) l (positive (a .q .kind) (c .before .before .before .if1 .left))
+    ∙ ap (λ (k : ℕ). eqb (byteAt l k) (pecOver l 0 k)) (c .before .before .before .before .before .pre)
+    ∙ other-pec (a .q) l (positive (a .q .kind) (c .before .before .if1 .left))
 
 pub pec-is-right-spec : {M : Type 1} → statement M
 pec-is-right-spec =
-    tie.close (tie.spec returns shape-of-requires byte-at-requires pec-over-requires returns-2)
+    tie.close (tie.spec returns byte-at-requires pec-over-requires returns-2)

@@ -2,7 +2,6 @@
 use mathlib.Core.Path.{ap, _∙_}
 use Rattle.contents.specs.Rows.{settledCount}
 use Rattle.readings.specs.declared.Reading.the-variants.{Values}
-use Rattle.questions.specs.declared.question.Shape.{Shape}
 use Rattle.contents.proofs.RowLaws.{positive, hello-settled, write-settled, read-settled}
 use borrow.Author.Needs.{needs}
 use Rattle.contents.proofs.settle.Statement.{statement}
@@ -24,15 +23,12 @@ returns-2 c =
     let a = c .before .before .before .args in
     write-settled (a .q) (a .line .now) (positive (a .q .kind) (c .before .if1 .left)) (c .if2 .taken)
 
-shape-of-requires : tie.Need-shape-of-requires
-shape-of-requires c κs = search needs
-
 returns-3 : tie.Need-returns-3
 returns-3 c =
-    let a = c .before .before .before .before .args in
-    ap (λ (s : Shape). Values (s .values)) (c .shape-of .ensures) ∙ read-settled (a .q) (a .line .now) (c .before .if2 .left)
+    let a = c .before .before .before .args in
+    ap Values (c .before .before .before .pre) ∙ read-settled (a .q) (a .line .now) (c .if2 .left)
 
 pub settle-spec : {M : Type 1} → statement M
 settle-spec =
     tie.close
-    (tie.spec byte-at-requires settle-count-requires returns returns-2 shape-of-requires returns-3)
+    (tie.spec byte-at-requires settle-count-requires returns returns-2 returns-3)

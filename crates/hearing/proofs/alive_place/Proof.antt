@@ -7,9 +7,6 @@ use Rattle.hearing.proofs.Hearing.{carried-le}
 use borrow.Author.Needs.{needs}
 use Rattle.hearing.proofs.alive_place.Statement.{statement}
 use Rattle.hearing.proofs.alive_place.Tie as tie
-use Rattle.hearing.proofs.alive_place.Reads as reads
-use Rattle.hearing.proofs.alive_place.Lts as lts
-use Rattle.hearing.proofs.carried_by.Reads as carried-by-reads
 
 returns : tie.Need-returns
 returns c = simp (le-leb _ _ (c .if1 .taken))

@@ -2,8 +2,6 @@
 use borrow.Author.Tests.{eq-eqb, ne-eqb}
 use Rattle.hearing.proofs.carried_by.Statement.{statement}
 use Rattle.hearing.proofs.carried_by.Tie as tie
-use Rattle.hearing.proofs.carried_by.Reads as reads
-use Rattle.hearing.proofs.carried_by.Lts as lts
 
 returns : tie.Need-returns
 returns c = simp (eq-eqb _ _ (c .if1 .taken))

@@ -6,10 +6,6 @@ use Rattle.questions.specs.declared.question.Question.{Question}
 use borrow.Author.Needs.{needs}
 use Rattle.hearing.proofs.hear.Statement.{statement}
 use Rattle.hearing.proofs.hear.Tie as tie
-use Rattle.hearing.proofs.hear.Reads as reads
-use Rattle.hearing.proofs.hear.Lts as lts
-use Rattle.hearing.proofs.with_alive.Reads as with-alive-reads
-use Rattle.hearing.proofs.without_alive.Reads as without-alive-reads
 
 without-alive-requires : tie.Need-without-alive-requires
 without-alive-requires c κs = search needs

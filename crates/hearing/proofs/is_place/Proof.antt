@@ -2,8 +2,6 @@
 use borrow.Author.Tests.{le-leb, lt-leb}
 use Rattle.hearing.proofs.is_place.Statement.{statement}
 use Rattle.hearing.proofs.is_place.Tie as tie
-use Rattle.hearing.proofs.is_place.Reads as reads
-use Rattle.hearing.proofs.is_place.Lts as lts
 
 returns : tie.Need-returns
 returns c = simp (lt-leb _ _ (c .if1 .taken))

@@ -4,8 +4,6 @@ use Rattle.hearing.specs.Hear.{kindHeard}
 use borrow.Author.Needs.{needs}
 use Rattle.hearing.proofs.kind_heard.Statement.{statement}
 use Rattle.hearing.proofs.kind_heard.Tie as tie
-use Rattle.hearing.proofs.kind_heard.Reads as reads
-use Rattle.hearing.proofs.kind_heard.Lts as lts
 
 returns : tie.Need-returns
 unfolding kindHeard

@@ -7,9 +7,6 @@ use Rattle.hearing.specs.Hear.{aliveOn, aliveTold}
 use borrow.Author.Needs.{needs}
 use Rattle.hearing.proofs.with_alive.Statement.{statement}
 use Rattle.hearing.proofs.with_alive.Tie as tie
-use Rattle.hearing.proofs.with_alive.Reads as reads
-use Rattle.hearing.proofs.with_alive.Lts as lts
-use Rattle.questions.proofs.question.shape_of.Reads as shape-of-reads
 
 shape-of-requires : tie.Need-shape-of-requires
 shape-of-requires c κs = search needs

@@ -7,11 +7,6 @@ use Rattle.hearing.proofs.Hearing.{asked-same}
 use borrow.Author.Needs.{needs}
 use Rattle.hearing.proofs.without_alive.Statement.{statement}
 use Rattle.hearing.proofs.without_alive.Tie as tie
-use Rattle.hearing.proofs.without_alive.Reads as reads
-use Rattle.hearing.proofs.without_alive.Lts as lts
-use Rattle.lines.proofs.read.byte_at.Reads as byte-at-reads
-use Rattle.hearing.proofs.alive_place.Reads as alive-place-reads
-use Rattle.hearing.proofs.kind_heard.Reads as kind-heard-reads
 
 byte-at-requires : tie.Need-byte-at-requires
 byte-at-requires c κs = search needs

@@ -6,13 +6,13 @@ use Prim.Native.Nat.{ℕ, _-_, _/_, _≤_}
 use native.Mathlib.Omega.{arith}
 use lib.ListN.{length, getD, take}
 use lib.Seq.{sets}
-use Rattle.packing.specs.Words.{bytesOf, withWord}
+use Rattle.packing.specs.Words.{asBytes, withWord}
 use Rattle.packing.proofs.Storing.{bytes-next}
 use Rattle.packing.proofs.pack.Statement.{statement}
 use Rattle.packing.proofs.pack.Tie as tie
 
 abbrev Inv-loop : tie.InvT-loop
-Inv-loop words out₀ fitting k₀ out k = (k ≤ length words) × (k ≤ length out₀ / 2) × (length out ≡ length out₀) × (out ≡ sets out₀ 0 (bytesOf (take k words)))
+Inv-loop words out₀ fitting k₀ out k = (k ≤ length words) × (k ≤ length out₀ / 2) × (length out ≡ length out₀) × (out ≡ sets out₀ 0 (asBytes (take k words)))
 
 abbrev μ-loop : tie.MeasureT-loop
 μ-loop words out₀ fitting k₀ out k = fitting - k
@@ -21,7 +21,7 @@ least-requires : tie.Need-least-requires Inv-loop μ-loop
 least-requires c κs = tt
 
 loop-holds : tie.Need-loop-holds Inv-loop μ-loop
-unfolding bytesOf
+unfolding asBytes
 loop-holds c = (omega arith, omega arith, refl, refl)
 
 mul-put-bytes : tie.Need-mul-put-bytes Inv-loop μ-loop
@@ -58,7 +58,7 @@ returns : tie.Need-returns Inv-loop μ-loop
 returns c =
     let at = c .before .loop in
     let a = c .before .before .before .before .before .args in
-    at .inv .3 ∙ ap (λ (l : List ℕ). sets (a .out .now) 0 (bytesOf l)) (all-that-fit (a .words .now) (at .k) (length (a .out .now) / 2) (at .inv .0) (at .inv .1) (omega (arith, c .before .before .least .ensures, c .loop-test .left)))
+    at .inv .3 ∙ ap (λ (l : List ℕ). sets (a .out .now) 0 (asBytes l)) (all-that-fit (a .words .now) (at .k) (length (a .out .now) / 2) (at .inv .0) (at .inv .1) (omega (arith, c .before .before .least .ensures, c .loop-test .left)))
 
 pub pack-spec : {M : Type 1} → statement M
 pack-spec =

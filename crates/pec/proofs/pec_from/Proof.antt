@@ -11,12 +11,6 @@ use Rattle.pec.proofs.Fours.{first-four, next-four}
 use borrow.Author.Needs.{needs}
 use Rattle.pec.proofs.pec_from.Statement.{statement}
 use Rattle.pec.proofs.pec_from.Tie as tie
-use Rattle.pec.proofs.pec_from.Reads as reads
-use Rattle.pec.proofs.pec_from.Lts as lts
-use Rattle.pec.proofs.bring_on.Reads as bring-on-reads
-use Rattle.pec.proofs.moved_states.Reads as moved-states-reads
-use Rattle.pec.proofs.remainders.Reads as remainders-reads
-use Rattle.pec.proofs.take_in_from.Reads as take-in-from-reads
 
 abbrev Inv-loop : tie.InvT-loop
 Inv-loop crc bytes remainders moved a₀ b₀ c₀ d₀ i₀ a b c d i =

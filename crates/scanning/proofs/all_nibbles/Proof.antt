@@ -16,18 +16,18 @@ returns c =
     let none : length l - 2 ≡ 0 = omega arith in
     sym (ap (λ (n : ℕ). isNowhere (firstFailing isNibble l 1 n)) none)
 
-sub-all-pass : tie.Need-sub-all-pass
-sub-all-pass c = search needs
+sub-are-nibbles : tie.Need-sub-are-nibbles
+sub-are-nibbles c = search needs
 
-all-pass-requires : tie.Need-all-pass-requires
-all-pass-requires c κs = search needs
+are-nibbles-requires : tie.Need-are-nibbles-requires
+are-nibbles-requires c κs = search needs
 
 returns-2 : tie.Need-returns-2
 unfolding allNibbles firstNoNibble
 returns-2 c =
     let l = c .before .before .before .args .line .now in
     let between : length l - 1 - 1 ≡ length l - 2 = omega arith in
-    c .all-pass .ensures ∙ ap (λ (n : ℕ). isNowhere (firstFailing isNibble l 1 n)) between
+    c .are-nibbles .ensures ∙ ap (λ (n : ℕ). isNowhere (firstFailing isNibble l 1 n)) between
 
 pub all-nibbles-spec : {M : Type 1} → statement M
-all-nibbles-spec = tie.close (tie.spec returns sub-all-pass all-pass-requires returns-2)
+all-nibbles-spec = tie.close (tie.spec returns sub-are-nibbles are-nibbles-requires returns-2)

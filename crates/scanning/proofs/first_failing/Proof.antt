@@ -1,5 +1,5 @@
 -- `first_failing` meets its contract: what is left from here always answers as the whole does.
-use mathlib.Core.Path.{_≡_, sym, _∙_}
+use mathlib.Core.Path.{_≡_, refl, sym, _∙_}
 use Prim.Native.Nat.{_-_}
 use native.Mathlib.Omega.{arith}
 use borrow.Author.Tests.{not-true, not-false}
@@ -14,24 +14,21 @@ Inv-loop line row from to i₀ i = firstFailing (testOf row) line i (to - i) ≡
 abbrev μ-loop : tie.MeasureT-loop
 μ-loop line row from to i₀ i = to - i
 
-pass-over-requires : tie.Need-pass-over-requires Inv-loop μ-loop
-pass-over-requires c κs = c .before .pre
-
 loop-holds : tie.Need-loop-holds Inv-loop μ-loop
-loop-holds c = c .pass-over .ensures
+loop-holds c = refl
 
 mul-passes : tie.Need-mul-passes Inv-loop μ-loop
-mul-passes c = omega (arith, c .before .before .before .before .pre .1)
+mul-passes c = omega (arith, c .before .before .before .pre)
 
 shared-slice-read-passes : tie.Need-shared-slice-read-passes Inv-loop μ-loop
-shared-slice-read-passes c = omega (arith, c .before .before .before .before .before .pre .1)
+shared-slice-read-passes c = omega (arith, c .before .before .before .before .pre)
 
 passes-requires : tie.Need-passes-requires Inv-loop μ-loop
 passes-requires c κs = tt
 
 returns : tie.Need-returns Inv-loop μ-loop
 returns c =
-    let a = c .before .before .before .before .before .before .before .args in
+    let a = c .before .before .before .before .before .before .args in
     let at = c .before .before .before .before .loop in
     let fails = sym (c .before .passes .ensures) ∙ not-true (c .before .passes .result) (c .if1 .taken) in
     sym (scan-here (testOf (a .row)) (a .line .now) (at .i) (a .to) (c .before .before .before .loop-test .taken) fails) ∙ at .inv
@@ -44,14 +41,14 @@ loop-less c = omega arith
 
 loop-again : tie.Need-loop-again Inv-loop μ-loop
 loop-again c =
-    let a = c .before .before .before .before .before .before .before .args in
+    let a = c .before .before .before .before .before .before .args in
     let at = c .before .before .before .before .loop in
     let goes-on = sym (c .before .passes .ensures) ∙ not-false (c .before .passes .result) (c .if1 .left) in
     sym (scan-on (testOf (a .row)) (a .line .now) (at .i) (a .to) (c .before .before .before .loop-test .taken) goes-on) ∙ at .inv
 
 returns-2 : tie.Need-returns-2 Inv-loop μ-loop
 returns-2 c =
-    let a = c .before .before .before .before .args in
+    let a = c .before .before .before .args in
     let at = c .before .loop in
     sym (scan-done (testOf (a .row)) (a .line .now) (at .i) (a .to) (c .loop-test .left)) ∙ at .inv
 
@@ -61,7 +58,6 @@ first-failing-spec =
     (tie.spec
     Inv-loop
     μ-loop
-    pass-over-requires
     loop-holds
     mul-passes
     shared-slice-read-passes

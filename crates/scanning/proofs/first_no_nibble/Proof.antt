@@ -3,8 +3,9 @@ use mathlib.Core.Path.{_≡_, sym, ap, _∙_}
 use Prim.Native.Nat.{_-_}
 use native.Mathlib.Omega.{arith}
 use lib.ListN.{length}
-use Rattle.scanning.specs.Place.{testOf, firstFailing, firstNoNibble}
-use Rattle.scanning.specs.declared.Row.the-variants.{Manchester}
+use Rattle.characters.specs.Nibble.{isNibble}
+use Rattle.scanning.specs.Place.{firstFailing, firstNoNibble}
+use Rattle.scanning.proofs.FirstPlace.{skipped}
 use borrow.Author.Needs.{needs}
 use Rattle.scanning.proofs.first_no_nibble.Statement.{statement}
 use Rattle.scanning.proofs.first_no_nibble.Tie as tie
@@ -14,7 +15,13 @@ unfolding firstNoNibble firstFailing
 returns c =
     let l = c .before .before .args .line .now in
     let none : length l - 2 ≡ 0 = omega arith in
-    sym (ap (firstFailing (testOf Manchester) l 1) none)
+    sym (ap (firstFailing isNibble l 1) none)
+
+sub-pass-nibbles : tie.Need-sub-pass-nibbles
+sub-pass-nibbles c = search needs
+
+pass-nibbles-requires : tie.Need-pass-nibbles-requires
+pass-nibbles-requires c κs = search needs
 
 sub-first-failing : tie.Need-sub-first-failing
 sub-first-failing c = search needs
@@ -25,10 +32,12 @@ first-failing-requires c κs = search needs
 returns-2 : tie.Need-returns-2
 unfolding firstNoNibble
 returns-2 c =
-    let l = c .before .before .before .args .line .now in
+    let l = c .before .before .before .before .args .line .now in
+    let over = c .before .pass-nibbles .ensures in
     let between : length l - 1 - 1 ≡ length l - 2 = omega arith in
-    c .first-failing .ensures ∙ ap (firstFailing (testOf Manchester) l 1) between
+    c .first-failing .ensures ∙ skipped isNibble l 1 (c .before .pass-nibbles .result) (length l - 1) (over .0) (over .1) (over .2)
+    ∙ ap (firstFailing isNibble l 1) between
 
 pub first-no-nibble-spec : {M : Type 1} → statement M
 first-no-nibble-spec =
-    tie.close (tie.spec returns sub-first-failing first-failing-requires returns-2)
+    tie.close (tie.spec returns sub-pass-nibbles pass-nibbles-requires sub-first-failing first-failing-requires returns-2)

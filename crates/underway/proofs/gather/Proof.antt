@@ -5,10 +5,6 @@ use Rattle.underway.proofs.Laying.{laid-holds, holds-then}
 use borrow.Author.Needs.{needs}
 use Rattle.underway.proofs.gather.Statement.{statement}
 use Rattle.underway.proofs.gather.Tie as tie
-use Rattle.underway.proofs.gather.Reads as reads
-use Rattle.underway.proofs.gather.Lts as lts
-use Rattle.underway.proofs.push_carried.Reads as push-carried-reads
-use Rattle.underway.proofs.push_value.Reads as push-value-reads
 
 push-value-requires : tie.Need-push-value-requires
 push-value-requires c κs = search needs

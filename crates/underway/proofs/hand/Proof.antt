@@ -12,11 +12,6 @@ use Rattle.underway.proofs.Laying.{holds-within}
 use borrow.Author.Needs.{needs}
 use Rattle.underway.proofs.hand.Statement.{statement}
 use Rattle.underway.proofs.hand.Tie as tie
-use Rattle.underway.proofs.hand.Reads as reads
-use Rattle.underway.proofs.hand.Lts as lts
-use Rattle.writing.proofs.put_line.Reads as put-line-reads
-use Rattle.underway.proofs.lay.Reads as lay-reads
-use Rattle.underway.proofs.buffer.Reads as buffer-reads
 
 buffer-requires : tie.Need-buffer-requires
 buffer-requires c κs = search needs

@@ -11,11 +11,6 @@ use Rattle.underway.proofs.Laying.{holds-within}
 use borrow.Author.Needs.{needs}
 use Rattle.underway.proofs.is_as_left.Statement.{statement}
 use Rattle.underway.proofs.is_as_left.Tie as tie
-use Rattle.underway.proofs.is_as_left.Reads as reads
-use Rattle.underway.proofs.is_as_left.Lts as lts
-use Rattle.underway.proofs.lay.Reads as lay-reads
-use Rattle.underway.proofs.buffer.Reads as buffer-reads
-use Rattle.underway.proofs.compare.is_line_of.Reads as is-line-of-reads
 
 buffer-requires : tie.Need-buffer-requires
 buffer-requires c κs = search needs

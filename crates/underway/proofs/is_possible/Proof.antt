@@ -4,10 +4,6 @@ use borrow.Author.Tests.{not-true, not-false}
 use borrow.Author.Needs.{needs}
 use Rattle.underway.proofs.is_possible.Statement.{statement}
 use Rattle.underway.proofs.is_possible.Tie as tie
-use Rattle.underway.proofs.is_possible.Reads as reads
-use Rattle.underway.proofs.is_possible.Lts as lts
-use Rattle.questions.proofs.question.is_good.Reads as is-good-reads
-use Rattle.underway.proofs.may_carry.Reads as may-carry-reads
 
 is-good-requires : tie.Need-is-good-requires
 is-good-requires c κs = search needs

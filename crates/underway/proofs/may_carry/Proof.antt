@@ -5,9 +5,6 @@ use borrow.Author.Tests.{le-leb, lt-leb}
 use borrow.Author.Needs.{needs}
 use Rattle.underway.proofs.may_carry.Statement.{statement}
 use Rattle.underway.proofs.may_carry.Tie as tie
-use Rattle.underway.proofs.may_carry.Reads as reads
-use Rattle.underway.proofs.may_carry.Lts as lts
-use Rattle.questions.proofs.question.shape_of.Reads as shape-of-reads
 
 returns : tie.Need-returns
 returns c = simp (le-leb _ _ (c .if1 .taken))

@@ -17,13 +17,6 @@ use Rattle.underway.proofs.Laying.{holds-within, holds-behind}
 use Rattle.underway.proofs.TakingUp.{bounds, impossible, met-by, left-alone, taken-up}
 use Rattle.underway.proofs.take_up.Statement.{statement}
 use Rattle.underway.proofs.take_up.Tie as tie
-use Rattle.underway.proofs.take_up.Reads as reads
-use Rattle.underway.proofs.take_up.Lts as lts
-use Rattle.underway.proofs.buffer.Reads as buffer-reads
-use Rattle.underway.proofs.is_possible.Reads as is-possible-reads
-use Rattle.underway.proofs.gather.Reads as gather-reads
-use Rattle.underway.proofs.hand.Reads as hand-reads
-use Rattle.underway.proofs.is_as_left.Reads as is-as-left-reads
 
 is-possible-requires : tie.Need-is-possible-requires
 is-possible-requires c κs = tt

@@ -5,11 +5,6 @@ use native.Mathlib.Omega.{arith}
 use lib.ListN.{length}
 use Rattle.demonstration.proofs.show.bytes_on.Statement.{statement}
 use Rattle.demonstration.proofs.show.bytes_on.Tie as tie
-use Rattle.demonstration.proofs.show.bytes_on.Reads as reads
-use Rattle.demonstration.proofs.show.bytes_on.Lts as lts
-use Rattle.demonstration.proofs.show.hex.Reads as hex-reads
-use Rattle.demonstration.proofs.show.text.Reads as text-reads
-use Rattle.lines.proofs.read.byte_at.Reads as byte-at-reads
 
 abbrev Inv-loop : tie.InvT-loop
 Inv-loop line i₀ t3 i = 1 ≤ i

@@ -4,9 +4,6 @@ use native.Mathlib.Omega.{arith}
 use lib.ListN.{length}
 use Rattle.demonstration.proofs.show.values.Statement.{statement}
 use Rattle.demonstration.proofs.show.values.Tie as tie
-use Rattle.demonstration.proofs.show.values.Reads as reads
-use Rattle.demonstration.proofs.show.values.Lts as lts
-use Rattle.demonstration.proofs.show.hex.Reads as hex-reads
 
 abbrev Inv-loop : tie.InvT-loop
 Inv-loop words k₀ k = k ≤ length words

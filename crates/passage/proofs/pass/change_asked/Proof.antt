@@ -3,9 +3,6 @@ use borrow.Author.Tests.{eq-eqb, ne-eqb}
 use borrow.Author.Needs.{needs}
 use Rattle.passage.proofs.pass.change_asked.Statement.{statement}
 use Rattle.passage.proofs.pass.change_asked.Tie as tie
-use Rattle.passage.proofs.pass.change_asked.Reads as reads
-use Rattle.passage.proofs.pass.change_asked.Lts as lts
-use Rattle.passage.proofs.pass.stored.Reads as stored-reads
 
 stored-requires : tie.Need-stored-requires
 stored-requires c κs = search needs

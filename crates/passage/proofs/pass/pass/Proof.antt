@@ -9,14 +9,6 @@ use Rattle.passage.proofs.Passing.{not-acting, no-place, is-possible, a
 use borrow.Author.Needs.{needs}
 use Rattle.passage.proofs.pass.pass.Statement.{statement}
 use Rattle.passage.proofs.pass.pass.Tie as tie
-use Rattle.passage.proofs.pass.pass.Reads as reads
-use Rattle.passage.proofs.pass.pass.Lts as lts
-use Rattle.hearing.proofs.carried_by.Reads as carried-by-reads
-use Rattle.hearing.proofs.hear.Reads as hear-reads
-use Rattle.hearing.proofs.is_place.Reads as is-place-reads
-use Rattle.passage.proofs.pass.change_asked.Reads as change-asked-reads
-use Rattle.passage.proofs.pass.register_at.Reads as register-at-reads
-use Rattle.underway.proofs.take_up.Reads as take-up-reads
 
 is-place-requires : tie.Need-is-place-requires
 is-place-requires c κs = search needs

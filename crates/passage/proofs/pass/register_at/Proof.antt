@@ -4,8 +4,6 @@ use lib.ListN.{List·getD-eq-default}
 use borrow.Author.Needs.{needs}
 use Rattle.passage.proofs.pass.register_at.Statement.{statement}
 use Rattle.passage.proofs.pass.register_at.Tie as tie
-use Rattle.passage.proofs.pass.register_at.Reads as reads
-use Rattle.passage.proofs.pass.register_at.Lts as lts
 
 mul-result : tie.Need-mul-result
 mul-result c = search needs

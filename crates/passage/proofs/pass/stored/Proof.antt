@@ -2,8 +2,6 @@
 use borrow.Author.Tests.{eq-eqb, ne-eqb}
 use Rattle.passage.proofs.pass.stored.Statement.{statement}
 use Rattle.passage.proofs.pass.stored.Tie as tie
-use Rattle.passage.proofs.pass.stored.Reads as reads
-use Rattle.passage.proofs.pass.stored.Lts as lts
 
 returns : tie.Need-returns
 returns c = simp (eq-eqb _ _ (c .if1 .taken))

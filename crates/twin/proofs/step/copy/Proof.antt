@@ -9,8 +9,6 @@ use Rattle.ground.specs.Sweep.{tabulated}
 use Rattle.ground.proofs.Lists.{filled-next, sets-front, tabulated-own}
 use Rattle.twin.proofs.step.copy.Statement.{statement}
 use Rattle.twin.proofs.step.copy.Tie as tie
-use Rattle.twin.proofs.step.copy.Reads as reads
-use Rattle.twin.proofs.step.copy.Lts as lts
 
 abbrev Inv-loop : tie.InvT-loop
 Inv-loop line out₀ i₀ out i = (i ≤ length line) × (out ≡ sets out₀ 0 (tabulated (λ (k : ℕ). getD line k 0) i 0)) × (length out ≡ length out₀)

@@ -9,10 +9,6 @@ use Rattle.twin.specs.Step.{withChange}
 use borrow.Author.Needs.{needs}
 use Rattle.twin.proofs.step.hop.Statement.{statement}
 use Rattle.twin.proofs.step.hop.Tie as tie
-use Rattle.twin.proofs.step.hop.Reads as reads
-use Rattle.twin.proofs.step.hop.Lts as lts
-use Rattle.passage.proofs.pass.pass.Reads as pass-reads
-use Rattle.twin.proofs.step.keep.Reads as keep-reads
 
 mul-start : tie.Need-mul-start
 mul-start c = search needs

@@ -4,8 +4,6 @@ use Rattle.twin.specs.Step.{withChange}
 use borrow.Author.Needs.{needs}
 use Rattle.twin.proofs.step.keep.Statement.{statement}
 use Rattle.twin.proofs.step.keep.Tie as tie
-use Rattle.twin.proofs.step.keep.Reads as reads
-use Rattle.twin.proofs.step.keep.Lts as lts
 
 enum-told : tie.Need-enum-told
 enum-told c = search needs

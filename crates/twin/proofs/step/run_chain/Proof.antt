@@ -12,11 +12,6 @@ use Rattle.registers.proofs.Power.{chain-words}
 use Rattle.twin.proofs.Stepping.{turned-away, no-room, handed-on, hopped-on, hops-length}
 use Rattle.twin.proofs.step.run_chain.Statement.{statement}
 use Rattle.twin.proofs.step.run_chain.Tie as tie
-use Rattle.twin.proofs.step.run_chain.Reads as reads
-use Rattle.twin.proofs.step.run_chain.Lts as lts
-use Rattle.registers.proofs.is_chain.Reads as is-chain-reads
-use Rattle.twin.proofs.step.copy.Reads as copy-reads
-use Rattle.twin.proofs.step.hop.Reads as hop-reads
 
 abbrev Inv-loop : tie.InvT-loop
 Inv-loop n memory₀ line out₀ device₀ memory out device =

@@ -11,11 +11,6 @@ use Rattle.twin.proofs.Stepping.{turned-away, no-room, handed-on, hoppe
 use borrow.Author.Needs.{needs}
 use Rattle.twin.proofs.step.step.Statement.{statement}
 use Rattle.twin.proofs.step.step.Tie as tie
-use Rattle.twin.proofs.step.step.Reads as reads
-use Rattle.twin.proofs.step.step.Lts as lts
-use Rattle.registers.proofs.is_chain.Reads as is-chain-reads
-use Rattle.twin.proofs.step.copy.Reads as copy-reads
-use Rattle.twin.proofs.step.hop.Reads as hop-reads
 
 is-chain-requires : tie.Need-is-chain-requires
 is-chain-requires c κs = search needs

@@ -9,9 +9,6 @@ use Rattle.characters.specs.Nibble.{nibbleWord}
 use borrow.Author.Needs.{needs}
 use Rattle.underway.proofs.compare.is_byte.Statement.{statement}
 use Rattle.underway.proofs.compare.is_byte.Tie as tie
-use Rattle.underway.proofs.compare.is_byte.Reads as reads
-use Rattle.underway.proofs.compare.is_byte.Lts as lts
-use Rattle.characters.proofs.word_of.Reads as word-of-reads
 
 mul-if1 : tie.Need-mul-if1
 mul-if1 c = search needs

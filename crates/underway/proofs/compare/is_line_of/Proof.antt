@@ -13,9 +13,6 @@ use Rattle.underway.specs.TakeUp.{byteStands}
 use Rattle.underway.proofs.Compared.{other-length, other-start, other-byte, all-but-last}
 use Rattle.underway.proofs.compare.is_line_of.Statement.{statement}
 use Rattle.underway.proofs.compare.is_line_of.Tie as tie
-use Rattle.underway.proofs.compare.is_line_of.Reads as reads
-use Rattle.underway.proofs.compare.is_line_of.Lts as lts
-use Rattle.underway.proofs.compare.is_byte.Reads as is-byte-reads
 
 abbrev Inv-loop : tie.InvT-loop
 Inv-loop line bytes i₀ i = (i ≤ length bytes) × ((j : ℕ) → j < i → byteStands line j (getD bytes j 0) ≡ true)

@@ -1,0 +1,76 @@
+-- `entry_known_at` meets its contract: a good entry is not cut short, so that its places lie in the file.
+use mathlib.Core.Path.{ap, ap₂, _∙_}
+use Prim.Native.Nat.{ℕ, _+_, _*_}
+use native.Mathlib.Omega.{arith}
+use lib.ListN.{length, drop, length-drop}
+use Rattle.ground.proofs.Lists.{part-to-end}
+use Rattle.questions.specs.declared.question.Question.{Question}
+use Rattle.jobs.specs.declared.Next.the-variants as next
+use Rattle.jobs.specs.Check.{wordsIn, askedIn}
+use Rattle.jobs.proofs.GoodEntry.{good}
+use borrow.Author.Needs.{needs}
+use Rattle.jobs.proofs.entry.entry_known_at.Statement.{statement}
+use Rattle.jobs.proofs.entry.entry_known_at.Tie as tie
+
+sub-words-in : tie.Need-sub-words-in
+sub-words-in c = search needs
+
+part-words-in-start : tie.Need-part-words-in-start
+part-words-in-start c = search needs
+
+part-words-in-end : tie.Need-part-words-in-end
+part-words-in-end c = search needs
+
+words-in-requires : tie.Need-words-in-requires
+words-in-requires c κs = let a = c .before .before .args in omega (arith, ap length (part-to-end (a .file .now) (a .at)), good (a .header) (drop (a .at) (a .file .now)) (c .before .before .pre .1) .whole)
+
+sub-question-in : tie.Need-sub-question-in
+sub-question-in c = search needs
+
+part-question-in-start : tie.Need-part-question-in-start
+part-question-in-start c = search needs
+
+part-question-in-end : tie.Need-part-question-in-end
+part-question-in-end c = search needs
+
+question-in-requires : tie.Need-question-in-requires
+question-in-requires c κs = let a = c .before .before .before .before .args in omega (arith, ap length (part-to-end (a .file .now) (a .at)), good (a .header) (drop (a .at) (a .file .now)) (c .before .before .before .before .pre .1) .whole)
+
+add-start : tie.Need-add-start
+add-start c = search needs
+
+mul-t8 : tie.Need-mul-t8
+mul-t8 c =
+    let a = c .before .before .before .before .before .args in
+    let words = c .before .before .words-in .ensures ∙ ap wordsIn (part-to-end (a .file .now) (a .at)) in
+    omega (arith, words, good (a .header) (drop (a .at) (a .file .now)) (c .before .before .before .before .before .pre .1) .words)
+
+add-t15 : tie.Need-add-t15
+add-t15 c =
+    let a = c .before .before .before .before .before .args in
+    let words = c .before .before .words-in .ensures ∙ ap wordsIn (part-to-end (a .file .now) (a .at)) in
+    omega (arith, words, good (a .header) (drop (a .at) (a .file .now)) (c .before .before .before .before .before .pre .1) .whole, length-drop (a .at) (a .file .now))
+
+returns : tie.Need-returns
+returns c =
+    let a = c .before .before .before .before .before .args in
+    let part = part-to-end (a .file .now) (a .at) in
+    ap₂ (λ (q : Question) (w : ℕ). next.Entry (record { question = q; start = a .at + 8; words = w }) (record { at = a .at + 8 + 2 * w }))
+    (c .question-in .ensures ∙ ap (askedIn (a .header)) part) (c .before .before .words-in .ensures ∙ ap wordsIn part)
+
+pub entry-known-at-spec : {M : Type 1} → statement M
+entry-known-at-spec =
+    tie.close
+    (tie.spec
+    sub-words-in
+    part-words-in-start
+    part-words-in-end
+    words-in-requires
+    sub-question-in
+    part-question-in-start
+    part-question-in-end
+    question-in-requires
+    add-start
+    mul-t8
+    add-t15
+    returns)

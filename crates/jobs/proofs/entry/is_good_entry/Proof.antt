@@ -1,0 +1,69 @@
+-- `is_good_entry` meets its contract: at each `return` the tests before it decide the definition.
+use mathlib.Core.Path.{sym, ap, _∙_}
+use mathlib.Core.Bool.{Bool, _&&_}
+use native.Mathlib.Omega.{arith}
+use lib.ListN.{getD}
+use borrow.Author.Tests.{le-leb, lt-leb}
+use Rattle.questions.specs.declared.question.Question.{Question}
+use Rattle.jobs.specs.Rules.{unusedAreZero}
+use Rattle.jobs.specs.Check.{askedIn}
+use Rattle.jobs.proofs.GoodEntry.{too-short, too-many, cut-short, of-its-fields}
+use borrow.Author.Needs.{needs}
+use Rattle.jobs.proofs.entry.is_good_entry.Statement.{statement}
+use Rattle.jobs.proofs.entry.is_good_entry.Tie as tie
+
+returns : tie.Need-returns
+returns c = sym (too-short (c .before .before .args .header) (c .before .before .args .front .now) (c .if1 .taken))
+
+words-in-requires : tie.Need-words-in-requires
+words-in-requires c κs = search needs
+
+returns-2 : tie.Need-returns-2
+returns-2 c = sym (too-many (c .before .before .before .before .args .header) (c .before .before .before .before .args .front .now) (omega (arith, c .before .words-in .ensures, c .if2 .taken)))
+
+mul-if3 : tie.Need-mul-if3
+mul-if3 c = search needs
+
+add-if3 : tie.Need-add-if3
+add-if3 c = search needs
+
+returns-3 : tie.Need-returns-3
+returns-3 c = sym (cut-short (c .before .before .before .before .before .args .header) (c .before .before .before .before .before .args .front .now) (omega (arith, c .before .before .words-in .ensures, c .if3 .taken)))
+
+question-in-requires : tie.Need-question-in-requires
+question-in-requires c κs = search needs
+
+returns-4 : tie.Need-returns-4
+returns-4 c =
+    let a = c .before .before .before .before .before .before .before .before .args in
+    let words = c .before .before .before .before .before .words-in .ensures in
+    let kind = ap (λ (q : Question). q .kind) (c .before .before .question-in .ensures) in
+    sym (of-its-fields (a .header) (a .front .now) (omega (arith, words, c .before .before .before .if3 .left)) (omega (arith, words, c .before .before .before .before .if2 .left))
+    ∙ ap (λ (t : Bool). t && unusedAreZero (askedIn (a .header) (a .front .now))) (lt-leb (getD (a .front .now) 0 0) 4 (omega (arith, kind, c .if4 .taken))))
+
+are-unused-zero-requires : tie.Need-are-unused-zero-requires
+are-unused-zero-requires c κs = search needs
+
+returns-5 : tie.Need-returns-5
+returns-5 c =
+    let a = c .before .before .before .before .before .before .before .before .before .args in
+    let words = c .before .before .before .before .before .before .words-in .ensures in
+    let kind = ap (λ (q : Question). q .kind) (c .before .before .before .question-in .ensures) in
+    c .are-unused-zero .ensures ∙ ap unusedAreZero (c .before .before .before .question-in .ensures)
+    ∙ sym (of-its-fields (a .header) (a .front .now) (omega (arith, words, c .before .before .before .before .if3 .left)) (omega (arith, words, c .before .before .before .before .before .if2 .left))
+    ∙ ap (λ (t : Bool). t && unusedAreZero (askedIn (a .header) (a .front .now))) (le-leb (getD (a .front .now) 0 0) 4 (omega (arith, kind, c .before .if4 .left))))
+
+pub is-good-entry-spec : {M : Type 1} → statement M
+is-good-entry-spec =
+    tie.close
+    (tie.spec
+    returns
+    words-in-requires
+    returns-2
+    mul-if3
+    add-if3
+    returns-3
+    question-in-requires
+    returns-4
+    are-unused-zero-requires
+    returns-5)

@@ -1,0 +1,92 @@
+// The entries (document 01, "Job file and certificate"): whether one stands at the front of some bytes, whether nothing else stands behind the
+// header, and one taken out at its place.
+use crate::Cursor;
+use crate::EntryAt;
+use crate::Header;
+use crate::Next;
+use crate::fields::are_unused_zero;
+use packing::join;
+use questions::question::Question;
+ghost use mathlib.Core.Path.{_≡_};
+ghost use mathlib.Core.Bool.{true};
+ghost use Prim.Native.Nat.{_≤_};
+ghost use lib.ListN.{length, drop};
+ghost use Rattle.jobs.specs.Check.{wordsIn, askedIn, goodEntry, goodEntries, placedIn};
+
+pub fn are_good_entries(header: Header, file: &[u8]) -> bool
+    requires { ⌜ 7 ≤ length (now file) ⌝ }
+    ensures { λ r. ⌜ r ≡ goodEntries header (drop 7 (now (file .entry))) ⌝ }
+{
+    let mut at = 7;
+    while at < file.len() {
+        if !is_good_entry(header, &file[at..]) {
+            return false;
+        }
+        at = at + 8 + 2 * words_in(&file[at..]);
+    }
+    true
+}
+
+// Whether an entry stands at the front of some bytes: not cut short, and keeping the rules.
+pub fn is_good_entry(header: Header, front: &[u8]) -> bool
+    ensures { λ r. ⌜ r ≡ goodEntry header (now (front .entry)) ⌝ }
+{
+    if front.len() < 8 {
+        return false;
+    }
+    let words = words_in(front);
+    if 140 < words {
+        return false;
+    }
+    if front.len() < 8 + 2 * words {
+        return false;
+    }
+    let q = question_in(header, front);
+    if 4 < q.kind {
+        return false;
+    }
+    are_unused_zero(q)
+}
+
+// An entry that is known to stand at a place.
+pub fn entry_known_at(header: Header, file: &[u8], at: usize) -> Next
+    requires { ⌜ (at ≤ length (now file)) × (goodEntry header (drop at (now file)) ≡ true) ⌝ }
+    ensures { λ r. ⌜ r ≡ placedIn header at (drop at (now (file .entry))) ⌝ }
+{
+    let words = words_in(&file[at..]);
+    let question = question_in(header, &file[at..]);
+    let start = at + 8;
+    Next::Entry(
+        EntryAt {
+            question,
+            start,
+            words,
+        },
+        Cursor {
+            at: start + 2 * words,
+        },
+    )
+}
+
+// How many words an entry has.
+fn words_in(front: &[u8]) -> usize
+    requires { ⌜ 8 ≤ length (now front) ⌝ }
+    ensures { λ r. ⌜ r ≡ wordsIn (now (front .entry)) ⌝ }
+{
+    join(front[6], front[7]) as usize
+}
+
+fn question_in(header: Header, front: &[u8]) -> Question
+    requires { ⌜ 8 ≤ length (now front) ⌝ }
+    ensures { λ r. ⌜ r ≡ askedIn header (now (front .entry)) ⌝ }
+{
+    Question {
+        kind: front[0],
+        n: header.n,
+        alive: header.alive,
+        reg: front[1],
+        value: join(front[2], front[3]),
+        device: front[4],
+        seed: front[5],
+    }
+}

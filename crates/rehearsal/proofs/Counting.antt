@@ -1,0 +1,79 @@
+-- How long the answered file is, counted entry by entry: it depends on the questions alone, never on what the registers hold.
+use mathlib.Core.Path.{_≡_, refl, sym, ap, _∙_}
+use mathlib.Core.Bool.{true}
+use mathlib.Core.List.{List, [], _∷_}
+use Prim.Native.Nat.{ℕ, _+_, _*_, _≤_, _<_}
+use native.Mathlib.Omega.{arith}
+use lib.ListN.{length, drop, length-append}
+use Rattle.packing.proofs.Back.{length-bytes}
+use Rattle.jobs.specs.declared.Header.{Header}
+use Rattle.jobs.specs.Format.{Entry, asked, entryBytes, entriesBytes}
+use Rattle.jobs.specs.Check.{wordsIn, askedIn, goodEntries, entriesIn, headerIn, goodFile}
+use Rattle.jobs.proofs.Entries.{first-good, good-here, entries-here, no-more-entries, parts}
+use Rattle.jobs.proofs.Placed.{entry-within}
+use Rattle.rehearsal.specs.declared.Places.{Places}
+use Rattle.rehearsal.specs.Rehearsal.{answerWords, sent, withWords, rehearsed, afterPowerOn, rehearsalOf}
+use Rattle.rehearsal.specs.Answering.{entryWith}
+use Rattle.rehearsal.proofs.Sending.{few-words, answer-length}
+
+-- how many bytes the entries have with their answers, whatever the registers hold
+unfoldable pub sizes : Header → List Entry → ℕ
+sizes h [] = 0
+sizes h (e ∷ es) = 8 + 2 * answerWords (asked h e) + sizes h es
+
+pub answered-size : (h : Header) (memory : List ℕ) (e : Entry) → length (entryBytes (withWords e (sent (h .n) memory (asked h e) .line))) ≡ 8 + 2 * answerWords (asked h e)
+answered-size h memory e = omega (arith, length-bytes (sent (h .n) memory (asked h e) .line), answer-length (asked h e) (h .n) memory)
+
+pub rehearsed-size : (h : Header) (memory : List ℕ) (es : List Entry) → length (entriesBytes (rehearsed h memory es)) ≡ sizes h es
+unfolding rehearsed entriesBytes sizes
+rehearsed-size h memory [] = refl
+rehearsed-size h memory (e ∷ es) =
+    let s = sent (h .n) memory (asked h e) in
+    omega (arith, length-append (entryBytes (withWords e (s .line))) (entriesBytes (rehearsed h (s .memory) es)), answered-size h memory e, rehearsed-size h (s .memory) es)
+
+-- what is counted, and what is left, make up the whole
+pub record Counting (h : Header) (file : List ℕ) (p : Places) : Type 0 where
+  pub within : p .at ≤ length file
+  pub good : goodEntries h (drop (p .at) file) ≡ true
+  pub slow : p .to ≤ 40 * p .at
+  pub sum : p .to + sizes h (entriesIn (drop (p .at) file)) ≡ 7 + sizes h (entriesIn (drop 7 file))
+
+sizes-here : (h : Header) (file : List ℕ) (at : ℕ) → at < length file
+    → sizes h (entriesIn (drop at file)) ≡ 8 + 2 * answerWords (askedIn h (drop at file)) + sizes h (entriesIn (drop (at + 8 + 2 * wordsIn (drop at file)) file))
+unfolding sizes
+sizes-here h file at here = ap (sizes h) (entries-here file at here)
+
+pub counting-first : (h : Header) (file : List ℕ) → goodFile file ≡ true → h ≡ headerIn file → Counting h file (record { at = 7; to = 7 })
+counting-first h file ok is = record {
+  within = parts file ok .long;
+  good = ap (λ (x : Header). goodEntries x (drop 7 file)) is ∙ parts file ok .entries;
+  slow = omega arith;
+  sum = refl;
+}
+
+module _ (h : Header) (file : List ℕ) (p : Places) (here : p .at < length file) (counting : Counting h file p) where
+  pub counting-on : Counting h file (entryWith h file p)
+  counting-on = record {
+    within = entry-within h file (p .at) here (counting .good);
+    good = sym (good-here h file (p .at) here (first-good h file (p .at) here (counting .good))) ∙ counting .good;
+    slow = omega (arith, counting .slow, few-words (askedIn h (drop (p .at) file)));
+    sum = omega (arith, counting .sum, sizes-here h file (p .at) here);
+  }
+
+no-sizes : (h : Header) → sizes h [] ≡ 0
+unfolding sizes
+no-sizes h = refl
+
+pub counted : (h : Header) (file : List ℕ) (p : Places) → h ≡ headerIn file → length file ≤ p .at → Counting h file p → p .to ≡ length (rehearsalOf file)
+unfolding rehearsalOf
+counted h file p is over counting =
+    let h′ = headerIn file in
+    let es = entriesIn (drop 7 file) in
+    omega (
+      arith,
+      counting .sum,
+      ap (sizes h) (no-more-entries file (p .at) over),
+      no-sizes h,
+      ap (λ (x : Header). sizes x es) is,
+      rehearsed-size h′ (afterPowerOn (h′ .n)) es,
+    )

@@ -1,0 +1,53 @@
+-- `count_entry` meets its contract: of good entries there is one here, and its answer is counted.
+use mathlib.Core.Path.{ap, ap₂, _∙_}
+use Prim.Native.Nat.{ℕ, _+_, _*_}
+use native.Mathlib.Omega.{arith}
+use Rattle.jobs.specs.declared.EntryAt.{EntryAt}
+use Rattle.jobs.proofs.Placed.{no-other, placed}
+use Rattle.rehearsal.specs.Rehearsal.{answerWords}
+use Rattle.rehearsal.proofs.Sending.{few-words}
+use borrow.Author.Needs.{needs}
+use Rattle.rehearsal.proofs.count.count_entry.Statement.{statement}
+use Rattle.rehearsal.proofs.count.count_entry.Tie as tie
+
+next-entry-requires : tie.Need-next-entry-requires
+next-entry-requires c κs = search needs
+
+enum-known-next : tie.Need-enum-known-next
+enum-known-next c = search needs
+
+returns : tie.Need-returns
+returns c =
+    let a = c .before .before .before .args in
+    absurd (no-other (a .header) (a .file .now) (a .places .at) (c .before .before .before .pre .0) (c .before .before .before .pre .1) (c .before .next-entry .result) (c .before .next-entry .ensures) (c .match .keys2))
+
+add-t8 : tie.Need-add-t8
+add-t8 c = search needs
+
+answer-words-requires : tie.Need-answer-words-requires
+answer-words-requires c κs = search needs
+
+mul-t10 : tie.Need-mul-t10
+mul-t10 c = omega (arith, c .answer-words .ensures, few-words (c .before .before .before .next .given .0 .0 .question))
+
+add-t11 : tie.Need-add-t11
+add-t11 c = omega (arith, c .answer-words .ensures, few-words (c .before .before .before .next .given .0 .0 .question), c .before .before .before .before .before .before .before .pre .2, c .before .before .before .before .before .before .before .pre .3, c .before .before .before .before .before .before .before .pre .0)
+
+returns-2 : tie.Need-returns-2
+returns-2 c =
+    let a = c .before .before .before .before .before .before .before .args in
+    let is = placed (a .header) (a .file .now) (a .places .at) (c .before .before .before .before .before .before .before .pre .0) (c .before .before .before .before .before .before .before .pre .1) (c .before .before .before .before .before .next-entry .result) (c .before .before .before .next .given .0 .0) (c .before .before .before .next .given .0 .1 .0) (c .before .before .before .before .before .next-entry .ensures) (c .before .before .before .next .given .1) in
+    ap₂ (λ (at words : ℕ). record { at = at; to = a .places .to + 8 + 2 * words }) (is .after) (c .answer-words .ensures ∙ ap (λ (e : EntryAt). answerWords (e .question)) (is .entry))
+
+pub count-entry-spec : {M : Type 1} → statement M
+count-entry-spec =
+    tie.close
+    (tie.spec
+    next-entry-requires
+    enum-known-next
+    returns
+    add-t8
+    answer-words-requires
+    mul-t10
+    add-t11
+    returns-2)
