@@ -2,21 +2,21 @@
 use mathlib.Core.Path.{_≡_, sym, ap, _∙_}
 use mathlib.Core.Bool.{true, _&&_}
 use mathlib.Core.List.{List}
-use Prim.Native.Nat.{ℕ, _+_, _*_, _%_, _≤_, _<_}
+use Prim.Native.Nat.{ℕ, _+_, _*_, _%_, _≤_}
 use native.Mathlib.Omega.{arith}
 use lib.Dec.{eqb}
 use lib.ListN.{length, getD, take}
 use borrow.Author.Tests.{eqb-true}
 use Rattle.ground.proofs.Test.{and-left, and-right}
 use Rattle.pec.specs.Pec.{pecOf}
-use Rattle.lines.specs.Line.{byteAt, byteCount, bytesOf, pecOver}
-use Rattle.lines.proofs.Line.{length-bytes, bytes-at}
+use Rattle.lines.specs.Line.{byteCount, bytesOf}
+use Rattle.lines.proofs.Line.{length-bytes}
 use Rattle.questions.specs.Question.{byForm}
 use Rattle.questions.specs.Shape.{shapeOf}
 use Rattle.questions.specs.Bytes.{sealed}
 use Rattle.questions.specs.declared.question.Question.{Question}
 use Rattle.questions.proofs.Good.{good-alive}
-use Rattle.contents.specs.Rows.{valueEchoed, echoed}
+use Rattle.contents.specs.Rows.{byteIn, valueEchoed, echoed}
 use Rattle.judging.proofs.Accepted.{Taken}
 use Rattle.contents.proofs.RowLaws.{other-pec, some-alive}
 use Rattle.acceptance.proofs.Sealed.{is-sealed}
@@ -33,39 +33,32 @@ module _ (q : Question) (line : List ℕ) (room : ℕ) (t : Taken q line room) w
     pub length-own : length (bytesOf line) ≡ count
     length-own = length-bytes line ∙ how-many
 
-    pub at : (i : ℕ) → i < count → getD (bytesOf line) i 0 ≡ byteAt line i
-    at i h = bytes-at line i (omega (arith, how-many))
-
   -- the first two bytes, of writes and reads
-  pub first-is : byteAt line 0 ≡ shapeOf q .first
+  pub first-is : byteIn (bytesOf line) 0 ≡ shapeOf q .first
   unfolding echoed
-  first-is = eqb-true (byteAt line 0) (shapeOf q .first) (and-left _ _ (t .echo))
+  first-is = eqb-true (byteIn (bytesOf line) 0) (shapeOf q .first) (and-left _ _ (t .echo))
 
-  pub rest-is : byForm (q .kind) (eqb (byteAt line 1) 0) (eqb (byteAt line 1) (q .reg) && valueEchoed q line) (eqb (byteAt line 1) (q .reg)) ≡ true
+  pub rest-is : byForm (q .kind) (eqb (byteIn (bytesOf line) 1) 0) (eqb (byteIn (bytesOf line) 1) (q .reg) && valueEchoed q (bytesOf line)) (eqb (byteIn (bytesOf line) 1) (q .reg)) ≡ true
   unfolding echoed
-  rest-is = and-right (eqb (byteAt line 0) (shapeOf q .first)) _ (t .echo)
+  rest-is = and-right (eqb (byteIn (bytesOf line) 0) (shapeOf q .first)) _ (t .echo)
 
-  pec-is : 1 ≤ q .kind → byteAt line (shapeOf q .covered) ≡ pecOver line 0 (shapeOf q .covered)
+  pec-is : 1 ≤ q .kind → byteIn (bytesOf line) (shapeOf q .covered) ≡ pecOf (take (shapeOf q .covered) (bytesOf line))
   pec-is lo =
-      eqb-true (byteAt line (shapeOf q .covered)) (pecOver line 0 (shapeOf q .covered)) (other-pec q line lo ∙ t .pec)
+      eqb-true (byteIn (bytesOf line) (shapeOf q .covered)) (pecOf (take (shapeOf q .covered) (bytesOf line))) (other-pec q (bytesOf line) lo ∙ t .pec)
 
-  alive-is : 1 ≤ q .kind → q .alive ≡ 1 → byteAt line (shapeOf q .covered + 1) ≡ (q .seed + shapeOf q .acting) % 256
+  alive-is : 1 ≤ q .kind → q .alive ≡ 1 → byteIn (bytesOf line) (shapeOf q .covered + 1) ≡ (q .seed + shapeOf q .acting) % 256
   alive-is lo on =
-      eqb-true (byteAt line (shapeOf q .covered + 1)) ((q .seed + shapeOf q .acting) % 256) (some-alive q line lo on ∙ t .alive)
+      eqb-true (byteIn (bytesOf line) (shapeOf q .covered + 1)) ((q .seed + shapeOf q .acting) % 256) (some-alive q (bytesOf line) lo on ∙ t .alive)
 
   -- ---- writes and reads: the covered part, its PEC and the alive byte
 
   module _ (lo : 1 ≤ q .kind) (words : shapeOf q .words ≡ 2 * (shapeOf q .covered + 1 + q .alive) + 2) where
     pub closed : (covered : List ℕ) → length covered ≡ shapeOf q .covered → take (shapeOf q .covered) (bytesOf line) ≡ covered
         → bytesOf line ≡ sealed q (shapeOf q .acting) covered
-    unfolding pecOver
     closed covered len front =
-        let count = shapeOf q .covered + 1 + q .alive in
-        let size = length-own count words in
-        let pec : getD (bytesOf line) (length covered) 0 ≡ pecOf covered =
-        ap (λ (k : ℕ). getD (bytesOf line) k 0) len ∙ at count words (shapeOf q .covered) (omega arith) ∙ pec-is lo ∙ ap pecOf front in
+        let size = length-own (shapeOf q .covered + 1 + q .alive) words in
         is-sealed q (shapeOf q .acting) (good-alive q (t .good)) (bytesOf line) covered
         (size ∙ ap (λ (k : ℕ). k + 1 + q .alive) (sym len))
         (ap (λ (k : ℕ). take k (bytesOf line)) len ∙ front)
-        pec
-        (λ on. ap (λ (k : ℕ). getD (bytesOf line) (k + 1) 0) len ∙ at count words (shapeOf q .covered + 1) (omega arith) ∙ alive-is lo on)
+        (ap (λ (k : ℕ). getD (bytesOf line) k 0) len ∙ pec-is lo ∙ ap pecOf front)
+        (λ on. ap (λ (k : ℕ). getD (bytesOf line) (k + 1) 0) len ∙ alive-is lo on)

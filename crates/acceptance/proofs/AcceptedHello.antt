@@ -4,22 +4,22 @@ use mathlib.Core.Bool.{Bool, true, false, cond, _&&_}
 use mathlib.Core.List.{List, [], _∷_}
 use Prim.Native.Nat.{ℕ, _+_, _*_, _≤_}
 use native.Mathlib.Omega.{arith}
-use lib.Dec.{leb, lit<}
+use lib.Dec.{leb}
 use lib.ListN.{length, getD}
 use borrow.Author.Tests.{eqb-true, leb-true}
 use Rattle.ground.proofs.Test.{and-left, and-right}
-use Rattle.lines.specs.Line.{byteAt, bytesOf}
+use Rattle.lines.specs.Line.{bytesOf}
 use Rattle.questions.specs.Shape.{shapeOf}
 use Rattle.questions.specs.Bytes.{answerBytes}
 use Rattle.questions.specs.declared.question.Question.{Question}
 use Rattle.questions.proofs.ByKind.{of-hello}
 use Rattle.questions.proofs.Good.{hello-shape}
-use Rattle.contents.specs.Rows.{settledCount}
+use Rattle.contents.specs.Rows.{byteIn, settledCount}
 use Rattle.readings.specs.Reading.{numberOf}
 use Rattle.readings.specs.declared.Refusal.the-variants.{Count}
 use Rattle.readings.specs.declared.Reading.the-variants.{Counted, Refused}
 use Rattle.judging.proofs.Accepted.{Taken}
-use Rattle.acceptance.proofs.AcceptedBytes.{length-own, at, first-is, rest-is}
+use Rattle.acceptance.proofs.AcceptedBytes.{length-own, first-is, rest-is}
 
 all-three : (l : List ℕ) → length l ≡ 3 → l ≡ getD l 0 0 ∷ getD l 1 0 ∷ getD l 2 0 ∷ []
 all-three [] h = absurd (omega arith)
@@ -29,16 +29,13 @@ all-three (a ∷ b ∷ c ∷ []) h = refl
 all-three (a ∷ b ∷ c ∷ d ∷ l) h = absurd (omega arith)
 
 module _ (q : Question) (line : List ℕ) (room : ℕ) (t : Taken q line room) where
-  pub hello-bytes : q .kind ≡ 0 → bytesOf line ≡ answerBytes q (byteAt line 2 ∷ []) 0
+  pub hello-bytes : q .kind ≡ 0 → bytesOf line ≡ answerBytes q (byteIn (bytesOf line) 2 ∷ []) 0
   unfolding answerBytes
   hello-bytes e =
       let words : shapeOf q .words ≡ 2 * 3 + 2 = ap (λ s. s .words) (hello-shape q e) in
-      let second : byteAt line 1 ≡ 0 = eqb-true (byteAt line 1) 0 (sym (of-hello (q .kind) _ _ _ e) ∙ rest-is q line room t) in
+      let second : byteIn (bytesOf line) 1 ≡ 0 = eqb-true (byteIn (bytesOf line) 1) 0 (sym (of-hello (q .kind) _ _ _ e) ∙ rest-is q line room t) in
       all-three (bytesOf line) (length-own q line room t 3 words)
-      ∙ ap₂ (λ (x y : ℕ). x ∷ y ∷ getD (bytesOf line) 2 0 ∷ []) (at q line room t 3 words 0 (lit< tt) ∙ first-is q line room t)
-      (at q line room t 3 words 1 (lit< tt) ∙ second)
-      ∙ ap (λ (x : ℕ). shapeOf q .first ∷ 0 ∷ x ∷ []) (at q line room t 3 words 2 (lit< tt))
-      ∙ sym (of-hello (q .kind) _ _ _ e)
+      ∙ ap₂ (λ (x y : ℕ). x ∷ y ∷ byteIn (bytesOf line) 2 ∷ []) (first-is q line room t) second ∙ sym (of-hello (q .kind) _ _ _ e)
 
 pub right-count : (b : ℕ) → numberOf (settledCount b) ≡ 0 → (1 ≤ b) × (b ≤ 32)
 unfolding settledCount

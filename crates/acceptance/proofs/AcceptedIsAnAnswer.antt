@@ -8,18 +8,18 @@ use native.Mathlib.Nat.{eq-zero-or-pos}
 use native.Mathlib.Omega.{arith}
 use Rattle.ground.proofs.Test.{below-or-not}
 use Rattle.ground.proofs.Sweep.{length-tabulated}
-use Rattle.lines.specs.Line.{lineOf, byteAt, bytesOf}
+use Rattle.lines.specs.Line.{lineOf, bytesOf}
 use Rattle.scanning.proofs.Whole.{own-bytes}
 use Rattle.questions.specs.Shape.{shapeOf}
 use Rattle.questions.specs.Bytes.{answerBytes}
 use Rattle.questions.specs.declared.question.Question.{Question}
 use Rattle.questions.proofs.ByKind.{of-hello, of-write, of-read}
 use Rattle.questions.proofs.Good.{good-kind, hello-shape, write-shape, read-shape}
-use Rattle.contents.specs.Rows.{settledCount, settled}
+use Rattle.contents.specs.Rows.{byteIn, settledCount, settled}
 use Rattle.readings.specs.Reading.{numberOf, valuesTaken}
 use Rattle.judging.specs.Judge.{judgeOf}
 use Rattle.readings.specs.declared.Reading.the-variants.{Counted, Written, Values}
-use Rattle.reader.specs.Read.{valueAt, valuesOn}
+use Rattle.reader.specs.Read.{valueIn, valuesOn}
 use Rattle.judging.proofs.Accepted.{Taken, taken-settles, accepted-takes}
 use Rattle.contents.proofs.RowLaws.{hello-settled, write-settled, read-settled, count-right}
 use Rattle.acceptance.specs.Answer.{Answered}
@@ -32,7 +32,7 @@ module _ (q : Question) (line : List ℕ) (room : ℕ) (accepted : numberOf (jud
   taken : Taken q line room
   taken = accepted-takes q line room accepted
 
-  verdict : judgeOf q line room ≡ settled q line
+  verdict : judgeOf q line room ≡ settled q (bytesOf line)
   verdict = taken-settles q line room taken
 
   answer-line : (values : List ℕ) (count : ℕ) → shapeOf q .words ≡ 2 * count + 2 → bytesOf line ≡ answerBytes q values 0
@@ -41,8 +41,8 @@ module _ (q : Question) (line : List ℕ) (room : ℕ) (accepted : numberOf (jud
 
   hello-answered : q .kind ≡ 0 → Answered q line room
   hello-answered e =
-      let b = byteAt line 2 in
-      let says : judgeOf q line room ≡ settledCount b = verdict ∙ sym (hello-settled q line e) in
+      let b = byteIn (bytesOf line) 2 in
+      let says : judgeOf q line room ≡ settledCount b = verdict ∙ sym (hello-settled q (bytesOf line) e) in
       let right = right-count b (ap numberOf (sym says) ∙ accepted) in
       let reading : judgeOf q line room ≡ Counted b = says ∙ sym (count-right b (right .0) (right .1)) in
       record {
@@ -59,7 +59,7 @@ module _ (q : Question) (line : List ℕ) (room : ℕ) (accepted : numberOf (jud
   write-answered lo hi =
       let s = write-shape q lo hi in
       let words : shapeOf q .words ≡ 2 * (5 + q .alive) + 2 = omega (arith, s .words) in
-      let reading : judgeOf q line room ≡ Written = verdict ∙ sym (write-settled q line lo hi) in
+      let reading : judgeOf q line room ≡ Written = verdict ∙ sym (write-settled q (bytesOf line) lo hi) in
       record {
         values = [];
         answer = record { fitting = write lo hi refl; written = answer-line [] (5 + q .alive) words (write-bytes q line room taken lo hi) };
@@ -72,11 +72,11 @@ module _ (q : Question) (line : List ℕ) (room : ℕ) (accepted : numberOf (jud
       let m = shapeOf q .values in
       let s = read-shape q lo in
       let words : shapeOf q .words ≡ 2 * (2 * m + 4 + q .alive) + 2 = omega (arith, s .words) in
-      let reading : judgeOf q line room ≡ Values m = verdict ∙ sym (read-settled q line lo) in
+      let reading : judgeOf q line room ≡ Values m = verdict ∙ sym (read-settled q (bytesOf line) lo) in
       record {
         values = valuesOn line m;
         answer = record {
-          fitting = read lo (good-kind q (taken .good)) (record { number = length-tabulated (valueAt line m) m 0; registers = register-values line m });
+          fitting = read lo (good-kind q (taken .good)) (record { number = length-tabulated (valueIn (bytesOf line) m) m 0; registers = register-values line m });
           written = answer-line (valuesOn line m) (2 * m + 4 + q .alive) words (read-bytes q line room taken lo);
         };
         reading = reading ∙ sym (of-read (q .kind) _ _ _ lo);

@@ -10,20 +10,21 @@ use lib.Seq.{take-suc, getD-drop}
 use borrow.Author.Tests.{eqb-true}
 use Rattle.ground.specs.Sweep.{tabulated}
 use Rattle.ground.proofs.Test.{below-or-not}
-use Rattle.ground.proofs.Sweep.{length-tabulated, tabulated-at, tabulated-same}
-use Rattle.lines.specs.Line.{byteAt, bytesOf}
-use Rattle.lines.proofs.Line.{bytes-bytes, byte-lt}
+use Rattle.ground.proofs.Sweep.{length-tabulated, tabulated-at}
+use Rattle.lines.specs.Line.{bytesOf}
+use Rattle.lines.proofs.Line.{bytes-bytes}
 use Rattle.questions.specs.Shape.{shapeOf}
 use Rattle.questions.specs.Bytes.{onWire, readCovered, answerBytes}
 use Rattle.questions.specs.declared.question.Question.{Question}
 use Rattle.questions.proofs.ByKind.{of-read}
 use Rattle.questions.proofs.Good.{read-shape}
-use Rattle.reader.specs.Read.{valueAt, valuesOn}
+use Rattle.reader.specs.Read.{valueIn, valuesOn}
 use Rattle.judging.proofs.Accepted.{Taken}
+use Rattle.contents.specs.Rows.{byteIn}
 use Rattle.contents.proofs.RowLaws.{read-check}
 use Rattle.acceptance.specs.Answer.{Registers}
-use Rattle.acceptance.proofs.Wire.{length-wire, valueIn, wire-read}
-use Rattle.acceptance.proofs.AcceptedBytes.{length-own, at, first-is, rest-is, closed}
+use Rattle.acceptance.proofs.Wire.{length-wire, wire-read}
+use Rattle.acceptance.proofs.AcceptedBytes.{length-own, first-is, rest-is, closed}
 
 take-more : (l : List ℕ) (k : ℕ) → 2 + k ≤ length l → take (2 + k) l ≡ getD l 0 0 ∷ getD l 1 0 ∷ take k (drop 2 l)
 take-more [] k h = absurd (omega arith)
@@ -46,23 +47,11 @@ module _ (q : Question) (line : List ℕ) (room : ℕ) (t : Taken q line room) w
     unfolding m count
     many = omega (arith, length-own q line room t count words, read-shape q lo .covered)
 
-    here : (i : ℕ) → i < 2 * m + 4 → getD (bytesOf line) i 0 ≡ byteAt line i
-    unfolding m count
-    here i h = at q line room t count words i (omega (arith, read-shape q lo .covered))
-
-    -- the values read off the bytes are those that the reader hands out
-    same-values : tabulated (valueIn (bytesOf line) (bytes-bytes line) m (omega (arith, many))) m 0 ≡ valuesOn line m
-    unfolding valueAt
-    same-values =
-        tabulated-same _ (valueAt line m) m 0
-        (λ k h. ap₂ (λ (x y : ℕ). x + 256 * y) (here (2 + 2 * (m - 1 - k)) (omega arith)) (here (2 + 2 * (m - 1 - k) + 1) (omega arith)))
-
     on-wire : take (2 * m) (drop 2 (bytesOf line)) ≡ onWire (valuesOn line m)
     on-wire =
         let none : m - m ≡ 0 = omega arith in
         let room : 2 + 2 * m ≤ length (bytesOf line) = omega (arith, many) in
-        wire-read (bytesOf line) (bytes-bytes line) m room m (le-refl m)
-        ∙ ap (λ (i : ℕ). onWire (tabulated (valueIn (bytesOf line) (bytes-bytes line) m room) m i)) none ∙ ap onWire same-values
+        wire-read (bytesOf line) (bytes-bytes line) m room m (le-refl m) ∙ ap (λ (i : ℕ). onWire (tabulated (valueIn (bytesOf line) m) m i)) none
 
     read-front : take (shapeOf q .covered) (bytesOf line) ≡ readCovered q (valuesOn line m) 0
     unfolding m
@@ -72,18 +61,17 @@ module _ (q : Question) (line : List ℕ) (room : ℕ) (t : Taken q line room) w
         let last : shapeOf q .covered - 1 ≡ 2 + 2 * m = omega (arith, read-shape q lo .covered) in
         let within : 2 * m < length (drop 2 (bytesOf line)) = omega (arith, length-drop 2 (bytesOf line)) in
         let check : getD (drop 2 (bytesOf line)) (2 * m) 0 ≡ 0 =
-        getD-drop 2 (bytesOf line) (2 * m) 0 ∙ here (2 + 2 * m) (omega arith)
-        ∙ ap (byteAt line) (sym last) ∙ read-check q line lo ∙ t .check in
+        getD-drop 2 (bytesOf line) (2 * m) 0 ∙ ap (byteIn (bytesOf line)) (sym last) ∙ read-check q (bytesOf line) lo ∙ t .check in
         ap (λ (k : ℕ). take k (bytesOf line)) covered ∙ take-more (bytesOf line) (suc (2 * m)) (omega arith)
-        ∙ ap₂ (λ (x y : ℕ). x ∷ y ∷ take (suc (2 * m)) (drop 2 (bytesOf line))) (here 0 (omega arith) ∙ first-is q line room t)
-        (here 1 (omega arith) ∙ eqb-true (byteAt line 1) (q .reg) (sym (of-read (q .kind) _ _ _ lo) ∙ rest-is q line room t))
+        ∙ ap₂ (λ (x y : ℕ). x ∷ y ∷ take (suc (2 * m)) (drop 2 (bytesOf line))) (first-is q line room t)
+        (eqb-true (byteIn (bytesOf line) 1) (q .reg) (sym (of-read (q .kind) _ _ _ lo) ∙ rest-is q line room t))
         ∙ ap (λ (l : List ℕ). shapeOf q .first ∷ q .reg ∷ l)
         (take-suc (drop 2 (bytesOf line)) (2 * m) 0 within ∙ ap₂ (λ (x : List ℕ) (y : ℕ). x ++ (y ∷ [])) on-wire check)
 
     length-read : length (readCovered q (valuesOn line m) 0) ≡ shapeOf q .covered
     unfolding m
     length-read =
-        omega (arith, length-append (onWire (valuesOn line m)) (0 ∷ []), length-wire (valuesOn line m), length-tabulated (valueAt line m) m 0, read-shape q lo .covered)
+        omega (arith, length-append (onWire (valuesOn line m)) (0 ∷ []), length-wire (valuesOn line m), length-tabulated (valueIn (bytesOf line) m) m 0, read-shape q lo .covered)
 
     pub read-bytes : bytesOf line ≡ answerBytes q (valuesOn line (shapeOf q .values)) 0
     unfolding answerBytes m count
@@ -91,11 +79,10 @@ module _ (q : Question) (line : List ℕ) (room : ℕ) (t : Taken q line room) w
         closed q line room t (omega arith) words (readCovered q (valuesOn line m) 0) length-read read-front ∙ sym (of-read (q .kind) _ _ _ lo)
 
 pub register-values : (line : List ℕ) (m : ℕ) → Registers (valuesOn line m)
-unfolding valueAt
 register-values line m i =
+    let value = valueIn (bytesOf line) m in
     ⊎-elim
-    (λ h. let low = 2 + 2 * (m - 1 - (0 + i)) in
-    omega (arith, tabulated-at (valueAt line m) m 0 i h, byte-lt line low, byte-lt line (low + 1)))
-    (λ h. let past : length (valuesOn line m) ≤ i = omega (arith, length-tabulated (valueAt line m) m 0) in
+    (λ h. let low = 2 + 2 * (m - 1 - (0 + i)) in omega (arith, tabulated-at value m 0 i h, bytes-bytes line low, bytes-bytes line (low + 1)))
+    (λ h. let past : length (valuesOn line m) ≤ i = omega (arith, length-tabulated value m 0) in
     omega (arith, List·getD-eq-default (valuesOn line m) 0 past))
     (below-or-not i m)

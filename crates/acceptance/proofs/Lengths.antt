@@ -1,4 +1,4 @@
--- Command and answer have equal length in words: 8 for HELLOALL, 12 or 14 for writes, 14 or 16 for READDEVICE, at most 140 for READALL.
+-- A command has as many words as its answer.
 use mathlib.Core.Path.{_≡_, sym, ap, _∙_}
 use mathlib.Core.Bool.{true}
 use mathlib.Core.Logic.{⊎-elim}
@@ -14,7 +14,7 @@ use Rattle.questions.specs.Shape.{shapeOf}
 use Rattle.questions.specs.Bytes.{sealed, fillPairs, writeCovered, commandBytes}
 use Rattle.commands.specs.Command.{commandLine}
 use Rattle.questions.specs.declared.question.Question.{Question}
-use Rattle.questions.proofs.Good.{good-alive, good-values, hello-shape, write-shape, read-shape}
+use Rattle.questions.proofs.Good.{good-alive, hello-shape, write-shape, read-shape}
 use Rattle.questions.proofs.Bytes.{length-pairs, hello-command, write-command, read-command}
 use Rattle.acceptance.proofs.Sealed.{length-sealed}
 
@@ -40,19 +40,3 @@ module _ (q : Question) (good : goodQuestion q ≡ true) where
       ⊎-elim
       (λ (low : q .kind < 3). ⊎-elim bytes-hello (λ lo. bytes-write lo (omega arith)) (eq-zero-or-pos (q .kind)))
       bytes-read (below-or-not (q .kind) 3)
-
-  pub words-most : shapeOf q .words ≤ 140
-  words-most =
-      let alive = good-alive q good in
-      ⊎-elim
-      (λ (low : q .kind < 3). ⊎-elim (λ e. omega (arith, ap (λ s. s .words) (hello-shape q e)))
-      (λ lo. omega (arith, write-shape q lo (omega arith) .words)) (eq-zero-or-pos (q .kind)))
-      (λ lo. omega (arith, read-shape q lo .words, good-values q good)) (below-or-not (q .kind) 3)
-
-  -- and no answer is empty
-  pub words-least : 8 ≤ shapeOf q .words
-  words-least =
-      ⊎-elim
-      (λ (low : q .kind < 3). ⊎-elim (λ e. omega (arith, ap (λ s. s .words) (hello-shape q e)))
-      (λ lo. omega (arith, write-shape q lo (omega arith) .words)) (eq-zero-or-pos (q .kind)))
-      (λ lo. omega (arith, read-shape q lo .words)) (below-or-not (q .kind) 3)

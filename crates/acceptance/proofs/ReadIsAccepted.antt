@@ -1,5 +1,5 @@
 -- The line of a right answer to a read is accepted, and the values handed out are those that it carries.
-use mathlib.Core.Path.{_≡_, sym, ap, ap₂, _∙_}
+use mathlib.Core.Path.{_≡_, refl, sym, ap, ap₂, _∙_}
 use mathlib.Core.Bool.{true}
 use mathlib.Core.List.{List, [], _∷_, _++_}
 use Prim.Native.Nat.{ℕ, suc, _+_, _-_, _*_, _/_, _%_, _≤_, _<_}
@@ -11,21 +11,21 @@ use lib.Seq.{ext-getD, getD-at}
 use Rattle.ground.proofs.Sweep.{length-tabulated, tabulated-at}
 use Rattle.remainder.specs.Turned.{Bytes}
 use Rattle.pec.specs.Pec.{pecOf}
-use Rattle.lines.specs.Line.{lineOf, byteAt}
+use Rattle.lines.specs.Line.{lineOf, bytesOf}
 use Rattle.questions.specs.Question.{goodQuestion}
 use Rattle.questions.specs.Shape.{shapeOf}
 use Rattle.questions.specs.Bytes.{onWire, aliveByte, sealed, readCovered}
 use Rattle.questions.specs.declared.question.Question.{Question}
 use Rattle.questions.proofs.Good.{good-first, read-shape}
-use Rattle.contents.specs.Rows.{checkByte}
+use Rattle.contents.specs.Rows.{byteIn, checkByte}
 use Rattle.judging.specs.Judge.{judgeOf}
-use Rattle.reader.specs.Read.{valueAt, valuesOn}
+use Rattle.reader.specs.Read.{valueIn, valuesIn, valuesOn}
 use Rattle.readings.specs.declared.Reading.the-variants.{Values}
 use Rattle.judging.proofs.Accepted.{Taken, taken-settles}
 use Rattle.contents.proofs.RowLaws
 use Rattle.acceptance.specs.Answer.{Registers, Sendable}
 use Rattle.acceptance.proofs.Wire.{bytes-append, bytes-cons, no-bytes, length-wire, wire-at, wire-bytes}
-use Rattle.acceptance.proofs.SealedIsAccepted.{bytes, on-line, takes}
+use Rattle.acceptance.proofs.SealedIsAccepted.{bytes, own, takes}
 
 module _ (q : Question) (good : goodQuestion q ≡ true) (s : Sendable q) (room : ℕ) (enough : shapeOf q .values ≤ room) where
   module _ (lo : 3 ≤ q .kind) (values : List ℕ) (number : length values ≡ shapeOf q .values) (registers : Registers values) where
@@ -51,57 +51,60 @@ module _ (q : Question) (good : goodQuestion q ≡ true) (s : Sendable q) (room 
     behind : List ℕ
     behind = pecOf read-covered ∷ aliveByte q (shapeOf q .acting)
 
-    -- byte 2 + i of the line, among the values and the check byte
-    inner : (i : ℕ) → i < 2 * length values + 1 → byteAt read-line (2 + i) ≡ getD (onWire values ++ (0 ∷ [])) i 0
-    unfolding read-line read-covered behind bytes sealed
+    read-sealed : List ℕ
+    read-sealed = sealed q (shapeOf q .acting) read-covered
+
+    -- byte 2 + i of the answer, among the values and the check byte
+    inner : (i : ℕ) → i < 2 * length values + 1 → byteIn read-sealed (2 + i) ≡ getD (onWire values ++ (0 ∷ [])) i 0
+    unfolding read-sealed read-covered behind sealed
     inner i h =
         let two : 2 + i ≡ suc (suc i) = omega arith in
         let size = length-append (onWire values) (0 ∷ []) in
         let wire = length-wire values in
-        on-line q good s room enough (omega arith) read-covered read-are-bytes read-len (2 + i) (omega (arith, read-shape q lo .covered))
-        ∙ ap (λ (k : ℕ). getD (sealed q (shapeOf q .acting) read-covered) k 0) two
-        ∙ List·getD-append (onWire values ++ (0 ∷ [])) behind 0 i (omega arith)
+        ap (byteIn (sealed q (shapeOf q .acting) read-covered)) two ∙ List·getD-append (onWire values ++ (0 ∷ [])) behind 0 i (omega arith)
 
-    on-the-wire : (i : ℕ) → i < 2 * length values → byteAt read-line (2 + i) ≡ getD (onWire values) i 0
+    on-the-wire : (i : ℕ) → i < 2 * length values → byteIn read-sealed (2 + i) ≡ getD (onWire values) i 0
     on-the-wire i h = inner i (omega arith) ∙ List·getD-append (onWire values) (0 ∷ []) 0 i (omega (arith, length-wire values))
 
-    check-clear : checkByte q read-line ≡ 0
+    check-clear : checkByte q read-sealed ≡ 0
     check-clear =
         let last : shapeOf q .covered - 1 ≡ 2 + 2 * length values = omega (arith, read-shape q lo .covered) in
-        sym (RowLaws.read-check q read-line lo) ∙ ap (byteAt read-line) last ∙ inner (2 * length values) (omega arith)
+        sym (RowLaws.read-check q read-sealed lo) ∙ ap (byteIn read-sealed) last ∙ inner (2 * length values) (omega arith)
         ∙ getD-at (onWire values) 0 [] 0 (2 * length values) (length-wire values)
 
     read-takes : Taken q read-line room
-    unfolding read-line read-covered bytes sealed
+    unfolding read-line read-sealed read-covered bytes sealed
     read-takes =
         let shape = read-shape q lo in
         let words : shapeOf q .words ≡ 2 * (shapeOf q .covered + 1 + q .alive) + 2 = omega (arith, shape .words, shape .covered) in
-        let at : (i : ℕ) → i < 2 → byteAt read-line i ≡ getD (sealed q (shapeOf q .acting) read-covered) i 0 =
-        λ i h. on-line q good s room enough (omega arith) read-covered read-are-bytes read-len i (omega (arith, shape .covered)) in
         takes q good s room enough (omega arith) read-covered read-are-bytes read-len words
-        (sym (RowLaws.read-echo q read-line (at 0 (lit< tt)) lo (at 1 (lit< tt)))) check-clear
+        (sym (RowLaws.read-echo q read-sealed refl lo refl)) check-clear
 
     pub read-reads : judgeOf q read-line room ≡ Values (shapeOf q .values)
-    read-reads = taken-settles q read-line room read-takes ∙ sym (RowLaws.read-settled q read-line lo)
+    read-reads = taken-settles q read-line room read-takes ∙ sym (RowLaws.read-settled q (bytesOf read-line) lo)
 
     -- each device's value, once, in address order
     whole : (v : ℕ) → v % 256 + 256 * (v / 256) ≡ v
     whole v = omega arith
 
-    value-is : (k : ℕ) → k < length values → valueAt read-line (length values) k ≡ getD values k 0
-    unfolding valueAt
+    value-is : (k : ℕ) → k < length values → valueIn read-sealed (length values) k ≡ getD values k 0
     value-is k h =
         let i = 2 * (length values - 1 - k) in
         let none : i ≡ i + 0 = omega arith in
         let next : 2 + i + 1 ≡ 2 + (i + 1) = omega arith in
         ap₂ (λ (x y : ℕ). x + 256 * y)
         (on-the-wire i (omega arith) ∙ ap (λ (k : ℕ). getD (onWire values) k 0) none ∙ wire-at values k 0 h (lit< tt))
-        (ap (byteAt read-line) next ∙ on-the-wire (i + 1) (omega arith) ∙ wire-at values k 1 h (lit< tt))
+        (ap (byteIn read-sealed) next ∙ on-the-wire (i + 1) (omega arith) ∙ wire-at values k 1 h (lit< tt))
         ∙ whole (getD values k 0)
+
+    own-bytes : bytesOf read-line ≡ read-sealed
+    unfolding read-line read-sealed bytes
+    own-bytes = own q good s room enough (omega arith) read-covered read-are-bytes read-len
 
     pub read-hands-out : valuesOn read-line (shapeOf q .values) ≡ values
     read-hands-out =
-        ap (valuesOn read-line) (sym number)
-        ∙ ext-getD 0 (valuesOn read-line (length values)) values (length-tabulated (valueAt read-line (length values)) (length values) 0)
-        (λ k h. let below : k < length values = omega (arith, length-tabulated (valueAt read-line (length values)) (length values) 0) in
-        tabulated-at (valueAt read-line (length values)) (length values) 0 k below ∙ ap (valueAt read-line (length values)) (zero-add k) ∙ value-is k below)
+        let value = valueIn read-sealed (length values) in
+        ap₂ valuesIn own-bytes (sym number)
+        ∙ ext-getD 0 (valuesIn read-sealed (length values)) values (length-tabulated value (length values) 0)
+        (λ k h. let below : k < length values = omega (arith, length-tabulated value (length values) 0) in
+        tabulated-at value (length values) 0 k below ∙ ap value (zero-add k) ∙ value-is k below)

@@ -1,36 +1,36 @@
 -- The second call and the first agree: the part handed back for a device, decoded, is the value that `read` gave for that device.
 use mathlib.Core.Path.{_≡_, sym, ap, ap₂, _∙_}
-use mathlib.Core.Bool.{Bool, true}
+use mathlib.Core.Bool.{true}
 use mathlib.Core.List.{List}
 use Prim.Native.Nat.{ℕ, _+_, _-_, _*_, _≤_, _<_}
-use native.Mathlib.Nat.{zero-add, le-refl}
+use native.Mathlib.Nat.{zero-add}
 use native.Mathlib.Omega.{arith}
-use lib.Dec.{eqb, lit<}
+use lib.Dec.{lit<}
 use lib.ListN.{length, getD, take, drop, length-take, length-drop, List·getD-append}
 use lib.Seq.{getD-take, getD-drop}
-use borrow.Author.Tests.{le-leb}
 use Rattle.ground.proofs.Sweep.{tabulated-at, length-tabulated}
 use Rattle.characters.specs.Nibble.{trueBits}
-use Rattle.lines.specs.Line.{byteAt}
+use Rattle.lines.specs.Line.{byteAt, byteCount, bytesOf}
+use Rattle.lines.proofs.Line.{bytes-at}
 use Rattle.lines.specs.Write.{atFront}
-use Rattle.questions.specs.Question.{covers, goodQuestion}
+use Rattle.questions.specs.Question.{covers}
 use Rattle.questions.specs.Shape.{shapeOf}
 use Rattle.questions.specs.declared.question.Question.{Question}
 use Rattle.readings.specs.Reading.{valuesTaken}
-use Rattle.contents.specs.InOrder.{unless}
-use Rattle.judging.specs.Judge.{judgeWords, judgeOf}
-use Rattle.reader.specs.Read.{valueAt, valuesOn, ReadDone}
+use Rattle.judging.specs.Judge.{judgeOf}
+use Rattle.reader.specs.Read.{valueIn, valuesOn, ReadDone}
 use Rattle.parts.specs.Part.{orderOf, valuesFound, partOf}
 use Rattle.readings.specs.declared.Reading.{Reading}
-use Rattle.readings.specs.declared.Refusal.the-variants as refusal
-use Rattle.judging.proofs.Accepted.{some-values}
+use Rattle.judging.proofs.Accepted.{some-values, values-carried}
+use Rattle.judging.proofs.Bounds.{enough-room}
 use Rattle.parts.proofs.Part.{inside, part-there}
 use Rattle.acceptance.specs.Part.{partValue}
 
 -- four characters from a place, read as a value
-part-value : (line : List ℕ) (m k : ℕ) → partValue (take 4 (drop (5 + 4 * (m - 1 - k)) line)) ≡ valueAt line m k
-unfolding valueAt byteAt
-part-value line m k =
+part-value : (line : List ℕ) (m k : ℕ) → k < m → 2 * m + 2 ≤ byteCount line
+    → partValue (take 4 (drop (5 + 4 * (m - 1 - k)) line)) ≡ valueIn (bytesOf line) m k
+unfolding byteAt
+part-value line m k order carried =
     let start = 5 + 4 * (m - 1 - k) in
     let x = m - 1 - k in
     let here : (j : ℕ) → j < 4 → getD (take 4 (drop start line)) j 0 ≡ getD line (start + j) 0 =
@@ -44,6 +44,7 @@ part-value line m k =
     ap₂ (λ (low high : ℕ). low + 256 * high)
     (ap₂ (λ (a b : ℕ). trueBits a + 16 * trueBits b) (word 0 _ (lit< tt) p0) (word 1 _ (lit< tt) p1))
     (ap₂ (λ (a b : ℕ). trueBits a + 16 * trueBits b) (word 2 _ (lit< tt) p2) (word 3 _ (lit< tt) p3))
+    ∙ sym (ap₂ (λ (low high : ℕ). low + 256 * high) (bytes-at line (2 + 2 * x) (omega arith)) (bytes-at line (2 + 2 * x + 1) (omega arith)))
 
 module _ (q : Question) (line : List ℕ) (a : ℕ) (some : 0 < valuesFound q line) (put-to : covers q a ≡ true) where
   -- decoded, the part is the device's value among those that `read` hands out
@@ -51,8 +52,11 @@ module _ (q : Question) (line : List ℕ) (a : ℕ) (some : 0 < valuesFound q li
   part-is-the-value =
       let m = valuesFound q line in
       let k = orderOf q a in
-      ap partValue (sym (part-there q line a some put-to)) ∙ part-value line m k
-      ∙ sym (tabulated-at (valueAt line m) m 0 k (inside q line a some put-to .order) ∙ ap (valueAt line m) (zero-add k))
+      let order = inside q line a some put-to .order in
+      let value = valueIn (bytesOf line) m in
+      ap partValue (sym (part-there q line a some put-to))
+      ∙ part-value line m k order (omega (arith, values-carried q line (shapeOf q .values)))
+      ∙ sym (tabulated-at value m 0 k order ∙ ap value (zero-add k))
 
   -- it has four characters
   pub part-has-four : length (partOf q line a) ≡ 4
@@ -60,13 +64,6 @@ module _ (q : Question) (line : List ℕ) (a : ℕ) (some : 0 < valuesFound q li
       let start = 5 + 4 * (valuesFound q line - 1 - orderOf q a) in
       let within = inside q line a some put-to .within in
       ap length (sym (part-there q line a some put-to)) ∙ length-take 4 (drop start line) ∙ omega (arith, length-drop start line)
-
--- where there is room, room plays no part
-enough-room : (q : Question) (line : List ℕ) (room : ℕ) → shapeOf q .values ≤ room → judgeOf q line room ≡ judgeOf q line (shapeOf q .values)
-unfolding judgeOf
-enough-room q line room h =
-    ap (λ (t : Bool). unless (goodQuestion q) refusal.Question (unless t refusal.Room (unless (eqb (length line) (shapeOf q .words)) refusal.Length (judgeWords q line))))
-    (le-leb (shapeOf q .values) room h ∙ sym (le-leb (shapeOf q .values) (shapeOf q .values) (le-refl (shapeOf q .values))))
 
 -- After a `read` that handed out values, the output holds at a device's place what the second call's part says.
 pub second-call-agrees : (q : Question) (line before after : List ℕ) (r : Reading) → ReadDone q line before after r → 0 < valuesTaken r
@@ -78,7 +75,7 @@ second-call-agrees q line before after r done some a put-to =
     let same : valuesTaken verdict ≡ valuesFound q line = ap valuesTaken (enough-room q line (length before) (c .taken .enough)) in
     let there : 0 < valuesFound q line = omega arith in
     let below : orderOf q a < length (valuesOn line (valuesFound q line)) =
-    omega (arith, length-tabulated (valueAt line (valuesFound q line)) (valuesFound q line) 0, inside q line a there put-to .order) in
+    omega (arith, length-tabulated (valueIn (bytesOf line) (valuesFound q line)) (valuesFound q line) 0, inside q line a there put-to .order) in
     ap (λ (l : List ℕ). getD l (orderOf q a) 0) (done .leaves ∙ ap (λ (m : ℕ). atFront (valuesOn line m) before) same)
     ∙ List·getD-append (valuesOn line (valuesFound q line)) (drop (length (valuesOn line (valuesFound q line))) before) 0 (orderOf q a) below
     ∙ sym (part-is-the-value q line a there put-to)

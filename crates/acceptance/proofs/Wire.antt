@@ -11,6 +11,7 @@ use Rattle.ground.specs.Sweep.{tabulated}
 use Rattle.ground.proofs.Lists.{take-two}
 use Rattle.remainder.specs.Turned.{Bytes}
 use Rattle.questions.specs.Bytes.{lowHigh, onWire}
+use Rattle.reader.specs.Read.{valueIn}
 use Rattle.acceptance.specs.Answer.{Registers}
 
 pub length-wire : (values : List ℕ) → length (onWire values) ≡ 2 * length values
@@ -43,10 +44,6 @@ two-bytes v h = bytes-cons (v % 256) (v / 256 ∷ []) (omega arith) (bytes-cons 
 -- ---- bytes read as values are those values on the wire
 
 module _ (l : List ℕ) (b : Bytes l) (m : ℕ) (room : 2 + 2 * m ≤ length l) where
-  -- the value that stands k devices from the lowest
-  abbrev pub valueIn : ℕ → ℕ
-  valueIn k = getD l (2 + 2 * (m - 1 - k)) 0 + 256 * getD l (2 + 2 * (m - 1 - k) + 1) 0
-
   two-more : (n : ℕ) → n < m
       → take (2 * suc n) (drop 2 l) ≡ take (2 * n) (drop 2 l) ++ (getD l (2 + 2 * n) 0 ∷ getD l (2 + 2 * n + 1) 0 ∷ [])
   two-more n h =
@@ -58,7 +55,7 @@ module _ (l : List ℕ) (b : Bytes l) (m : ℕ) (room : 2 + 2 * m ≤ length l) 
       ∙ ap₂ (λ (x y : ℕ). take (2 * n) (drop 2 l) ++ (x ∷ y ∷ [])) (getD-drop 2 l (2 * n) 0)
       (getD-drop 2 l (suc (2 * n)) 0 ∙ ap (λ (k : ℕ). getD l k 0) second)
 
-  pub wire-read : (n : ℕ) → n ≤ m → take (2 * n) (drop 2 l) ≡ onWire (tabulated valueIn n (m - n))
+  pub wire-read : (n : ℕ) → n ≤ m → take (2 * n) (drop 2 l) ≡ onWire (tabulated (valueIn l m) n (m - n))
   unfolding onWire
   wire-read zero h = refl
   wire-read (suc n) h =
@@ -66,10 +63,10 @@ module _ (l : List ℕ) (b : Bytes l) (m : ℕ) (room : 2 + 2 * m ≤ length l) 
       let place : m - 1 - (m - suc n) ≡ n = omega arith in
       let low = getD l (2 + 2 * n) 0 in
       let high = getD l (2 + 2 * n + 1) 0 in
-      let value : valueIn (m - suc n) ≡ low + 256 * high =
+      let value : valueIn l m (m - suc n) ≡ low + 256 * high =
       ap (λ (k : ℕ). getD l (2 + 2 * k) 0 + 256 * getD l (2 + 2 * k + 1) 0) place in
       two-more n h
-      ∙ ap₂ (λ (x y : List ℕ). x ++ y) (wire-read n (omega arith) ∙ ap (λ (k : ℕ). onWire (tabulated valueIn n k)) (sym next))
+      ∙ ap₂ (λ (x y : List ℕ). x ++ y) (wire-read n (omega arith) ∙ ap (λ (k : ℕ). onWire (tabulated (valueIn l m) n k)) (sym next))
       (ap₂ (λ (x y : ℕ). x ∷ y ∷ []) (sym (split-low low high (b (2 + 2 * n)))) (sym (split-high low high (b (2 + 2 * n))))
       ∙ ap lowHigh (sym value))
 

@@ -1,14 +1,13 @@
 -- The line of a right answer to a write is accepted.
-use mathlib.Core.Path.{_≡_, sym, ap₂, _∙_}
+use mathlib.Core.Path.{_≡_, refl, sym, ap₂, _∙_}
 use mathlib.Core.Bool.{true, _&&_}
 use mathlib.Core.List.{List, _∷_}
-use Prim.Native.Nat.{ℕ, _+_, _*_, _/_, _%_, _≤_, _<_}
+use Prim.Native.Nat.{ℕ, _+_, _*_, _/_, _%_, _≤_}
 use native.Mathlib.Omega.{arith}
-use lib.Dec.{lit<}
-use lib.ListN.{length, getD}
+use lib.ListN.{length}
 use borrow.Author.Tests.{eq-eqb}
 use Rattle.remainder.specs.Turned.{Bytes}
-use Rattle.lines.specs.Line.{lineOf, byteAt}
+use Rattle.lines.specs.Line.{lineOf, bytesOf}
 use Rattle.questions.specs.Question.{goodQuestion}
 use Rattle.questions.specs.Shape.{shapeOf}
 use Rattle.questions.specs.Bytes.{lowHigh, sealed, writeCovered}
@@ -20,7 +19,7 @@ use Rattle.judging.proofs.Accepted.{Taken, taken-settles}
 use Rattle.contents.proofs.RowLaws
 use Rattle.acceptance.specs.Answer.{Sendable}
 use Rattle.acceptance.proofs.Wire.{bytes-cons, two-bytes}
-use Rattle.acceptance.proofs.SealedIsAccepted.{bytes, on-line, takes}
+use Rattle.acceptance.proofs.SealedIsAccepted.{bytes, takes}
 
 module _ (q : Question) (good : goodQuestion q ≡ true) (s : Sendable q) (room : ℕ) (enough : shapeOf q .values ≤ room) where
   module _ (lo : 1 ≤ q .kind) (hi : q .kind ≤ 2) where
@@ -38,12 +37,10 @@ module _ (q : Question) (good : goodQuestion q ≡ true) (s : Sendable q) (room 
         let shape = write-shape q lo hi in
         let len : length (writeCovered q) ≡ shapeOf q .covered = sym (shape .covered) in
         let words : shapeOf q .words ≡ 2 * (shapeOf q .covered + 1 + q .alive) + 2 = omega (arith, shape .words, shape .covered) in
-        let at : (i : ℕ) → i < 4 → byteAt write-line i ≡ getD (sealed q (shapeOf q .acting) (writeCovered q)) i 0 =
-        λ i h. on-line q good s room enough lo (writeCovered q) write-are-bytes len i (omega (arith, shape .covered)) in
         takes q good s room enough lo (writeCovered q) write-are-bytes len words
-        (sym (RowLaws.write-echo q write-line (at 0 (lit< tt)) lo hi (at 1 (lit< tt)))
-        ∙ ap₂ _&&_ (eq-eqb (byteAt write-line 2) (q .value % 256) (at 2 (lit< tt))) (eq-eqb (byteAt write-line 3) (q .value / 256) (at 3 (lit< tt))))
-        (sym (RowLaws.no-check q write-line hi))
+        (sym (RowLaws.write-echo q (sealed q (shapeOf q .acting) (writeCovered q)) refl lo hi refl)
+        ∙ ap₂ _&&_ (eq-eqb (q .value % 256) (q .value % 256) refl) (eq-eqb (q .value / 256) (q .value / 256) refl))
+        (sym (RowLaws.no-check q (sealed q (shapeOf q .acting) (writeCovered q)) hi))
 
     pub write-reads : judgeOf q write-line room ≡ Written
-    write-reads = taken-settles q write-line room write-takes ∙ sym (RowLaws.write-settled q write-line lo hi)
+    write-reads = taken-settles q write-line room write-takes ∙ sym (RowLaws.write-settled q (bytesOf write-line) lo hi)

@@ -13,6 +13,7 @@ use Rattle.lines.specs.Write.{atFront}
 use Rattle.lines.proofs.Line.{length-line}
 use Rattle.packing.specs.Words.{asBytes}
 use Rattle.packing.proofs.Back.{length-bytes}
+use Rattle.questions.proofs.Good.{words-most}
 use Rattle.questions.specs.Question.{goodQuestion}
 use Rattle.questions.specs.Shape.{shapeOf}
 use Rattle.questions.specs.Bytes.{fillPairs, commandBytes}
@@ -25,7 +26,7 @@ use Rattle.commands.specs.declared.Head.{Head}
 use Rattle.commands.specs.declared.Issued.{Issued}
 use Rattle.commands.specs.declared.Issued.the-variants as issued
 use Rattle.commands.proofs.Taken.{head-taken}
-use Rattle.acceptance.proofs.Lengths.{command-words, words-most}
+use Rattle.acceptance.proofs.Lengths.{command-words}
 use Rattle.c_commands.specs.CommandBytes.{packedIssued, issuedInto, wordsOut, laid, CommandBytesDone}
 
 module _ (q : Question) (out : List ℕ) where

@@ -1,3 +1,4 @@
+mod TwoWords
 mod Laid
 mod Answered
 pub mod Agree

@@ -2,15 +2,15 @@
 // answer is packed into one number. The bytes are laid straight into the lent ones, with no line of words in between.
 use characters::PREAMBLE;
 use characters::STOP;
-use characters::word_of;
 use commands::head_of;
 use questions::question::Question;
 use questions::question::is_good;
 use questions::question::shape_of;
 ghost use mathlib.Core.Path.{_≡_};
 ghost use mathlib.Core.List.{_∷_, [], _++_};
-ghost use Prim.Native.Nat.{_+_, _*_, _≤_};
+ghost use Prim.Native.Nat.{_+_, _*_, _/_, _%_, _≤_};
 ghost use lib.ListN.{length};
+ghost use Rattle.characters.specs.Nibble.{nibbleWord};
 ghost use Rattle.lines.specs.Line.{charactersOf, lineOf};
 ghost use Rattle.questions.specs.Bytes.{fillPairs};
 ghost use Rattle.c_commands.specs.CommandBytes.{laid, CommandBytesDone};
@@ -64,8 +64,20 @@ fn lay_byte(out: &mut [u8], at: usize, byte: u8)
     requires { ⌜ at + 4 ≤ length (now out) ⌝ }
     ensures { λ _. ⌜ now (out .exit) ≡ laid (now (out .entry)) at (charactersOf (byte ∷ [])) ⌝ }
 {
-    lay_word(out, at, word_of(byte % 16));
-    lay_word(out, at + 2, word_of(byte / 16));
+    let both = two_words(byte);
+    lay_word(out, at, (both % 65536) as u16);
+    lay_word(out, at + 2, (both / 65536) as u16);
+}
+
+// The characters of both nibbles of a byte, the low nibble's in the lower half: as `word_of` spreads one nibble, with both spread at once.
+fn two_words(byte: u8) -> u32
+    ensures { λ r. ⌜ r ≡ nibbleWord (byte % 16) + 65536 * nibbleWord (byte / 16) ⌝ }
+{
+    let x = byte as u32;
+    let apart = (x | x * 4096) & 0xF000F;
+    let pairs = (apart | apart * 4) & 0x330033;
+    let singles = (pairs | pairs * 2) & 0x550055;
+    0xD540D54 - 2 * singles
 }
 
 fn lay_word(out: &mut [u8], at: usize, word: u16)

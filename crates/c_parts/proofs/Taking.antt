@@ -12,10 +12,10 @@ use borrow.Author.Tests.{leb-false}
 use Rattle.packing.specs.Words.{wordsOf, lineIn, LineTaken}
 use Rattle.packing.proofs.Back.{length-words}
 use Rattle.packing.proofs.Taken.{line-front}
+use Rattle.questions.proofs.Good.{words-most}
 use Rattle.questions.specs.Shape.{shapeOf}
 use Rattle.questions.specs.declared.question.Question.{Question}
 use Rattle.judging.proofs.Accepted.{some-values}
-use Rattle.acceptance.proofs.Lengths.{words-most}
 use Rattle.parts.specs.Part.{startOf}
 use Rattle.parts.proofs.Part.{starts, part-at}
 use Rattle.c_parts.specs.PartBytes.{packedStart, partIn}

@@ -12,22 +12,25 @@ use lib.ListN.{length, take, drop}
 use lib.Seq.{sets, take-at, take-append-le}
 use borrow.Author.Tests.{ne-eqb, leb-false}
 use Rattle.ground.proofs.Sweep.{length-tabulated}
+use Rattle.lines.specs.Line.{bytesOf}
 use Rattle.lines.specs.Write.{atFront}
 use Rattle.packing.specs.Words.{wordsOf, asBytes, lineIn}
 use Rattle.packing.proofs.Back.{length-words}
 use Rattle.packing.proofs.Taken.{taken-most, packed-front}
+use Rattle.questions.proofs.Good.{words-most, words-least}
 use Rattle.questions.specs.Question.{goodQuestion}
 use Rattle.questions.specs.Shape.{shapeOf}
 use Rattle.questions.specs.declared.question.Question as asked
 use Rattle.readings.specs.Reading.{placeOf, valuesTaken}
 use Rattle.readings.specs.declared.Refusal.the-variants.{Question, Room, Length}
 use Rattle.readings.specs.declared.Reading.{Reading}
-use Rattle.contents.specs.InOrder.{unless}
-use Rattle.judging.specs.Judge.{judgeWords, judgeOf}
+use Rattle.readings.specs.declared.Reading.the-variants.{Refused}
+use Rattle.contents.specs.InOrder.{unless, judgeBytes}
+use Rattle.contents.proofs.Unless.{turns-away}
+use Rattle.judging.specs.Judge.{wordRows, firstRows, judgeOf}
 use Rattle.judging.proofs.Accepted.{values-fit, some-values}
 use Rattle.judging.proofs.Bounds.{place-within, room-enough}
-use Rattle.acceptance.proofs.Lengths.{words-most, words-least}
-use Rattle.reader.specs.Read.{valueAt, valuesOn, ReadDone}
+use Rattle.reader.specs.Read.{valueIn, valuesOn, ReadDone}
 use Rattle.c_reader.specs.ReadBytes.{lineOn, readingOn, packedReading, Packable, ReadBytesDone}
 
 -- ---- a line of another length
@@ -35,18 +38,19 @@ use Rattle.c_reader.specs.ReadBytes.{lineOn, readingOn, packedReading, P
 -- a line that no answer has the length of
 module _ (q : asked.Question) (line : List ℕ) (room : ℕ) (other : goodQuestion q ≡ true → length line ≡ shapeOf q .words → ⊥) where
   abbrev after-room : Reading → Reading
-  after-room later = unless (goodQuestion q) Question (unless (leb (shapeOf q .values) room) Room later)
+  after-room later = unless (goodQuestion q) (Refused Question) (unless (leb (shapeOf q .values) room) (Refused Room) later)
 
-  wrong-length : judgeOf q line room ≡ after-room (unless false Length (judgeWords q line))
-  unfolding judgeOf
+  rest : Reading
+  rest = wordRows Refused line (judgeBytes q (bytesOf line))
+
+  wrong-length : judgeOf q line room ≡ after-room (Refused Length)
+  unfolding judgeOf firstRows rest
   wrong-length = by-test (goodQuestion q) refl
     where
       by-test : (t : Bool) → goodQuestion q ≡ t
-          → after-room (unless (eqb (length line) (shapeOf q .words)) Length (judgeWords q line)) ≡ after-room (unless false Length (judgeWords q line))
-      by-test true good = ap (λ (u : Bool). after-room (unless u Length (judgeWords q line))) (ne-eqb (length line) (shapeOf q .words) (other good))
-      by-test false bad =
-          ap (λ (t : Bool). unless t Question (unless (leb (shapeOf q .values) room) Room (unless (eqb (length line) (shapeOf q .words)) Length (judgeWords q line)))) bad
-          ∙ sym (ap (λ (t : Bool). unless t Question (unless (leb (shapeOf q .values) room) Room (unless false Length (judgeWords q line)))) bad)
+          → after-room (unless (eqb (length line) (shapeOf q .words)) (Refused Length) rest) ≡ after-room (Refused Length)
+      by-test true good = ap (λ (u : Bool). after-room (unless u (Refused Length) rest)) (ne-eqb (length line) (shapeOf q .words) (other good))
+      by-test false bad = turns-away _ _ _ bad ∙ sym (turns-away _ _ _ bad)
 
 -- is judged as no line at all
 no-line-fits : (q : asked.Question) (line : List ℕ) (room : ℕ) → 140 < length line → judgeOf q line room ≡ judgeOf q [] room
@@ -121,7 +125,7 @@ module _ (q : asked.Question) (line out : List ℕ) (room : ℕ) (is-room : room
       let m = valuesTaken reading in
       let same : m ≡ valuesTaken (readingOn q line out) = ap valuesTaken says-so in
       let values = valuesOn (lineOn line) (valuesTaken (readingOn q line out)) in
-      let many : length values ≡ m = length-tabulated (valueAt (lineOn line) (valuesTaken (readingOn q line out))) (valuesTaken (readingOn q line out)) 0 ∙ sym same in
+      let many : length values ≡ m = length-tabulated (valueIn (bytesOf (lineOn line)) (valuesTaken (readingOn q line out))) (valuesTaken (readingOn q line out)) 0 ∙ sym same in
       let stands : part ≡ atFront (valuesOn taken-line m) blank =
       done .leaves ∙ ap (λ (x : Reading). atFront (valuesOn taken-line (valuesTaken x)) blank) (sym (done .says)) in
       let given : valuesOn taken-line m ≡ values =

@@ -14,7 +14,8 @@ use Rattle.questions.specs.declared.question.Question.{Question}
 use Rattle.readings.specs.Reading.{numberOf, valuesTaken}
 use Rattle.readings.specs.declared.Reading.{Reading}
 use Rattle.judging.specs.Judge.{judgeOf}
-use Rattle.reader.specs.Read.{valueAt, valuesOn, ReadDone}
+use Rattle.lines.specs.Line.{bytesOf}
+use Rattle.reader.specs.Read.{valueIn, valuesOn, ReadDone}
 use Rattle.letters.specs.declared.Standing.{Standing}
 use Rattle.letters.specs.Letters.{hearOf}
 use Rattle.certificate.specs.declared.Heard.{Heard}
@@ -29,7 +30,7 @@ line-read blank bytes words even fits =
 
 -- the values at the front of the room are those handed out
 pub values-read : (line room : List ℕ) (m : ℕ) → take m (atFront (valuesOn line m) room) ≡ valuesOn line m
-values-read line room m = take-at (valuesOn line m) (drop (length (valuesOn line m)) room) m (length-tabulated (valueAt line m) m 0)
+values-read line room m = take-at (valuesOn line m) (drop (length (valuesOn line m)) room) m (length-tabulated (valueIn (bytesOf line) m) m 0)
 
 pub heard-is : (s after : Standing) (q : Question) (line line′ room room′ : List ℕ) (reading : Reading) (taken number : ℕ)
     → line′ ≡ line → length room ≡ 32 → ReadDone q line′ room room′ reading → taken ≡ valuesTaken reading → number ≡ numberOf reading

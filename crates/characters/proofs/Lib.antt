@@ -1,4 +1,4 @@
-pub mod Spread
+mod Spread
 pub mod Nibble
 pub mod Masks
 pub mod Agree

@@ -56,7 +56,7 @@ unfolding gathers
 all-gather = refl
 
 -- the mask looks at eight bits alone
-pub eight-bits : (x : ℕ) → bitAnd x 0x55 ≡ bitAnd (x % 256) 0x55
+eight-bits : (x : ℕ) → bitAnd x 0x55 ≡ bitAnd (x % 256) 0x55
 eight-bits x =
     let small : bitAnd x 0x55 < 256 = omega (arith, and-le-r x 0x55) in
     sym (mod-eq-of-lt small) ∙ and-mod x 0x55 8
@@ -86,19 +86,3 @@ gather w =
     ap gathered (eight-bits (w / 2))
     ∙ eqb-true (gathered (bitAnd y 0x55)) _ (swept gathers 256 all-gather y (mod-lt (w / 2) (zero-lt-suc 255)))
     ∙ data-bits w
-
--- gathered, and spread again
-back : ℕ → Bool
-back y = eqb (bitAnd y 0x55) (singles (gathered (bitAnd y 0x55)))
-
-all-back : every back 256 ≡ true
-unfolding back
-all-back = refl
-
-pub spread-again : (w : ℕ) → bitAnd (w / 2) 0x55 ≡ singles (trueBits w)
-unfolding back
-spread-again w =
-    let y = w / 2 % 256 in
-    eight-bits (w / 2)
-    ∙ eqb-true (bitAnd y 0x55) (singles (gathered (bitAnd y 0x55))) (swept back 256 all-back y (mod-lt (w / 2) (zero-lt-suc 255)))
-    ∙ ap (λ (x : ℕ). singles (gathered x)) (sym (eight-bits (w / 2))) ∙ ap singles (gather w)

@@ -2,7 +2,7 @@
 // away").
 use characters::STOP;
 use characters::word_of;
-use pec::pec;
+use pec::step;
 use questions::question::HELLOALL;
 use questions::question::Question;
 use questions::question::WRITEDEVICE;
@@ -73,7 +73,7 @@ fn write_head(first: u8, q: Question) -> Head
     let reg = q.reg;
     let low = (q.value % 256) as u8;
     let high = (q.value / 256) as u8;
-    let check = pec(&[first, reg, low, high]);
+    let check = step(step(step(step(0, first), reg), low), high);
     let seed = q.seed;
     Head {
         bytes: [first, reg, low, high, check, seed],
@@ -85,7 +85,7 @@ fn read_head(first: u8, q: Question) -> Head
     ensures { λ r. ⌜ r ≡ readHead first q ⌝ }
 {
     let reg = q.reg;
-    let check = pec(&[first, reg, 0]);
+    let check = step(step(step(0, first), reg), 0);
     let seed = q.seed;
     Head {
         bytes: [first, reg, 0, check, seed, 0],

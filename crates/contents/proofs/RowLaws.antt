@@ -9,55 +9,54 @@ use native.Mathlib.Omega.{arith}
 use lib.Dec.{eqb, leb}
 use borrow.Author.Tests.{eq-eqb, ne-eqb, le-leb, lt-leb}
 use Rattle.ground.proofs.Test.{below-or-not}
-use Rattle.lines.specs.Line.{byteAt}
 use Rattle.questions.specs.Question.{byForm}
 use Rattle.questions.specs.Shape.{shapeOf}
 use Rattle.questions.specs.declared.question.Question.{Question}
 use Rattle.questions.proofs.ByKind.{of-hello, of-write, of-read}
-use Rattle.contents.specs.Rows.{valueEchoed, echoed, pecHeld, pecRight, aliveHeld, aliveRight, checkByte, settledCount, settled}
+use Rattle.contents.specs.Rows.{byteIn, valueEchoed, echoed, pecHeld, pecRight, aliveHeld, aliveRight, checkByte, settledCount, settled}
 use Rattle.readings.specs.declared.Refusal.the-variants.{Count}
 use Rattle.readings.specs.declared.Reading.the-variants.{Counted, Written, Values, Refused}
 
 pub positive : (k : ℕ) → (k ≡ 0 → ⊥) → 1 ≤ k
 positive k h = omega arith
 
-module _ (q : Question) (line : List ℕ) where
+module _ (q : Question) (bytes : List ℕ) where
   -- ---- 7 ECHO
 
   rest : Bool
   rest =
-      byForm (q .kind) (eqb (byteAt line 1) 0) (eqb (byteAt line 1) (q .reg) && valueEchoed q line) (eqb (byteAt line 1) (q .reg))
+      byForm (q .kind) (eqb (byteIn bytes 1) 0) (eqb (byteIn bytes 1) (q .reg) && valueEchoed q bytes) (eqb (byteIn bytes 1) (q .reg))
 
-  pub first-other : (byteAt line 0 ≡ shapeOf q .first → ⊥) → false ≡ echoed q line
+  pub first-other : (byteIn bytes 0 ≡ shapeOf q .first → ⊥) → false ≡ echoed q bytes
   unfolding echoed rest
-  first-other h = sym (ap (λ (t : Bool). t && rest) (ne-eqb (byteAt line 0) (shapeOf q .first) h))
+  first-other h = sym (ap (λ (t : Bool). t && rest) (ne-eqb (byteIn bytes 0) (shapeOf q .first) h))
 
-  module _ (first : byteAt line 0 ≡ shapeOf q .first) where
-    by-rest : (b : Bool) → rest ≡ b → b ≡ echoed q line
+  module _ (first : byteIn bytes 0 ≡ shapeOf q .first) where
+    by-rest : (b : Bool) → rest ≡ b → b ≡ echoed q bytes
     unfolding echoed rest
-    by-rest b e = sym (ap₂ _&&_ (eq-eqb (byteAt line 0) (shapeOf q .first) first) e)
+    by-rest b e = sym (ap₂ _&&_ (eq-eqb (byteIn bytes 0) (shapeOf q .first) first) e)
 
-    pub hello-echo : q .kind ≡ 0 → eqb (byteAt line 1) 0 ≡ echoed q line
+    pub hello-echo : q .kind ≡ 0 → eqb (byteIn bytes 1) 0 ≡ echoed q bytes
     unfolding rest
-    hello-echo e = by-rest (eqb (byteAt line 1) 0) (of-hello (q .kind) _ _ _ e)
+    hello-echo e = by-rest (eqb (byteIn bytes 1) 0) (of-hello (q .kind) _ _ _ e)
 
-    pub second-other : 1 ≤ q .kind → (byteAt line 1 ≡ q .reg → ⊥) → false ≡ echoed q line
+    pub second-other : 1 ≤ q .kind → (byteIn bytes 1 ≡ q .reg → ⊥) → false ≡ echoed q bytes
     unfolding rest
     second-other lo h =
-        let other = ne-eqb (byteAt line 1) (q .reg) h in
+        let other = ne-eqb (byteIn bytes 1) (q .reg) h in
         ⊎-elim
-        (λ (w : q .kind < 3). by-rest false (of-write (q .kind) _ _ _ lo (omega arith) ∙ ap (λ (t : Bool). t && valueEchoed q line) other))
+        (λ (w : q .kind < 3). by-rest false (of-write (q .kind) _ _ _ lo (omega arith) ∙ ap (λ (t : Bool). t && valueEchoed q bytes) other))
         (λ r. by-rest false (of-read (q .kind) _ _ _ r ∙ other)) (below-or-not (q .kind) 3)
 
-    pub write-echo : 1 ≤ q .kind → q .kind ≤ 2 → byteAt line 1 ≡ q .reg → valueEchoed q line ≡ echoed q line
+    pub write-echo : 1 ≤ q .kind → q .kind ≤ 2 → byteIn bytes 1 ≡ q .reg → valueEchoed q bytes ≡ echoed q bytes
     unfolding rest
     write-echo lo hi e =
-        by-rest (valueEchoed q line)
-        (of-write (q .kind) _ _ _ lo hi ∙ ap (λ (t : Bool). t && valueEchoed q line) (eq-eqb (byteAt line 1) (q .reg) e))
+        by-rest (valueEchoed q bytes)
+        (of-write (q .kind) _ _ _ lo hi ∙ ap (λ (t : Bool). t && valueEchoed q bytes) (eq-eqb (byteIn bytes 1) (q .reg) e))
 
-    pub read-echo : 3 ≤ q .kind → byteAt line 1 ≡ q .reg → true ≡ echoed q line
+    pub read-echo : 3 ≤ q .kind → byteIn bytes 1 ≡ q .reg → true ≡ echoed q bytes
     unfolding rest
-    read-echo lo e = by-rest true (of-read (q .kind) _ _ _ lo ∙ eq-eqb (byteAt line 1) (q .reg) e)
+    read-echo lo e = by-rest true (of-read (q .kind) _ _ _ lo ∙ eq-eqb (byteIn bytes 1) (q .reg) e)
 
   -- ---- 8 PEC and 9 ALIVE: the same for writes and reads
 
@@ -65,52 +64,52 @@ module _ (q : Question) (line : List ℕ) where
   twice h x lo =
       ⊎-elim (λ (w : q .kind < 3). of-write (q .kind) h x x lo (omega arith)) (λ r. of-read (q .kind) h x x r) (below-or-not (q .kind) 3)
 
-  pub hello-pec : q .kind ≡ 0 → true ≡ pecRight q line
+  pub hello-pec : q .kind ≡ 0 → true ≡ pecRight q bytes
   unfolding pecRight
   hello-pec e = sym (of-hello (q .kind) _ _ _ e)
 
-  pub other-pec : 1 ≤ q .kind → pecHeld q line ≡ pecRight q line
+  pub other-pec : 1 ≤ q .kind → pecHeld q bytes ≡ pecRight q bytes
   unfolding pecRight
-  other-pec lo = sym (twice true (pecHeld q line) lo)
+  other-pec lo = sym (twice true (pecHeld q bytes) lo)
 
-  pub hello-alive : q .kind ≡ 0 → true ≡ aliveRight q line
+  pub hello-alive : q .kind ≡ 0 → true ≡ aliveRight q bytes
   unfolding aliveRight
   hello-alive e = sym (of-hello (q .kind) _ _ _ e)
 
   held : Bool
-  held = eqb (byteAt line (shapeOf q .covered + 1)) ((q .seed + shapeOf q .acting) % 256)
+  held = eqb (byteIn bytes (shapeOf q .covered + 1)) ((q .seed + shapeOf q .acting) % 256)
 
-  pub no-alive : 1 ≤ q .kind → (q .alive ≡ 1 → ⊥) → true ≡ aliveRight q line
+  pub no-alive : 1 ≤ q .kind → (q .alive ≡ 1 → ⊥) → true ≡ aliveRight q bytes
   unfolding aliveRight held
-  no-alive lo h = sym (twice true (aliveHeld q line) lo ∙ ap (λ (t : Bool). cond t held true) (ne-eqb (q .alive) 1 h))
+  no-alive lo h = sym (twice true (aliveHeld q bytes) lo ∙ ap (λ (t : Bool). cond t held true) (ne-eqb (q .alive) 1 h))
 
   pub some-alive : 1 ≤ q .kind → q .alive ≡ 1
-      → eqb (byteAt line (shapeOf q .covered + 1)) ((q .seed + shapeOf q .acting) % 256) ≡ aliveRight q line
+      → eqb (byteIn bytes (shapeOf q .covered + 1)) ((q .seed + shapeOf q .acting) % 256) ≡ aliveRight q bytes
   unfolding aliveRight held
-  some-alive lo e = sym (twice true (aliveHeld q line) lo ∙ ap (λ (t : Bool). cond t held true) (eq-eqb (q .alive) 1 e))
+  some-alive lo e = sym (twice true (aliveHeld q bytes) lo ∙ ap (λ (t : Bool). cond t held true) (eq-eqb (q .alive) 1 e))
 
   -- ---- 10 CHECK
 
-  pub no-check : q .kind ≤ 2 → 0 ≡ checkByte q line
+  pub no-check : q .kind ≤ 2 → 0 ≡ checkByte q bytes
   unfolding checkByte
   no-check hi =
       ⊎-elim (λ e. sym (of-hello (q .kind) _ _ _ e)) (λ lo. sym (of-write (q .kind) _ _ _ lo hi)) (eq-zero-or-pos (q .kind))
 
-  pub read-check : 3 ≤ q .kind → byteAt line (shapeOf q .covered - 1) ≡ checkByte q line
+  pub read-check : 3 ≤ q .kind → byteIn bytes (shapeOf q .covered - 1) ≡ checkByte q bytes
   unfolding checkByte
   read-check lo = sym (of-read (q .kind) _ _ _ lo)
 
   -- ---- 11 COUNT, and what is taken
 
-  pub hello-settled : q .kind ≡ 0 → settledCount (byteAt line 2) ≡ settled q line
+  pub hello-settled : q .kind ≡ 0 → settledCount (byteIn bytes 2) ≡ settled q bytes
   unfolding settled
   hello-settled e = sym (of-hello (q .kind) _ _ _ e)
 
-  pub write-settled : 1 ≤ q .kind → q .kind ≤ 2 → Written ≡ settled q line
+  pub write-settled : 1 ≤ q .kind → q .kind ≤ 2 → Written ≡ settled q bytes
   unfolding settled
   write-settled lo hi = sym (of-write (q .kind) _ _ _ lo hi)
 
-  pub read-settled : 3 ≤ q .kind → Values (shapeOf q .values) ≡ settled q line
+  pub read-settled : 3 ≤ q .kind → Values (shapeOf q .values) ≡ settled q bytes
   unfolding settled
   read-settled lo = sym (of-read (q .kind) _ _ _ lo)
 

@@ -2,12 +2,9 @@
 use mathlib.Core.Path.{_≡_, ap}
 use mathlib.Core.Bool.{Bool, true, false}
 use Rattle.contents.specs.InOrder.{unless}
-use Rattle.readings.specs.declared.Refusal.{Refusal}
-use Rattle.readings.specs.declared.Reading.{Reading}
-use Rattle.readings.specs.declared.Reading.the-variants.{Refused}
 
-pub goes-on : (t : Bool) (why : Refusal) (next : Reading) → t ≡ true → unless t why next ≡ next
-goes-on t why next e = ap (λ (t : Bool). unless t why next) e
+pub goes-on : {A : Type 0} (t : Bool) (away next : A) → t ≡ true → unless t away next ≡ next
+goes-on t away next e = ap (λ (t : Bool). unless t away next) e
 
-pub turns-away : (t : Bool) (why : Refusal) (next : Reading) → t ≡ false → unless t why next ≡ Refused why
-turns-away t why next e = ap (λ (t : Bool). unless t why next) e
+pub turns-away : {A : Type 0} (t : Bool) (away next : A) → t ≡ false → unless t away next ≡ away
+turns-away t away next e = ap (λ (t : Bool). unless t away next) e

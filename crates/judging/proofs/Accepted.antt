@@ -10,7 +10,7 @@ use lib.Dec.{leb}
 use lib.ListN.{length}
 use borrow.Author.Tests.{eqb-true, eq-eqb, leb-true, le-leb}
 use Rattle.ground.proofs.Test.{below-or-not}
-use Rattle.lines.specs.Line.{byteAt, byteCount}
+use Rattle.lines.specs.Line.{byteCount, bytesOf}
 use Rattle.scanning.specs.declared.Place.{Place}
 use Rattle.scanning.specs.declared.Place.the-variants.{At, Nowhere}
 use Rattle.scanning.proofs.Whole.{Passes}
@@ -19,9 +19,9 @@ use Rattle.questions.specs.Shape.{shapeOf}
 use Rattle.questions.specs.declared.question.Question as asked
 use Rattle.questions.proofs.Good.{good-values, read-shape}
 use Rattle.readings.specs.Reading.{refusalNumber, numberOf, valuesTaken}
-use Rattle.contents.specs.Rows.{echoed, pecRight, aliveRight, checkByte, settledCount, settled}
+use Rattle.contents.specs.Rows.{byteIn, echoed, pecRight, aliveRight, checkByte, settledCount, settled}
 use Rattle.contents.specs.InOrder.{unless, judgeBytes}
-use Rattle.judging.specs.Judge.{unlessAt, judgeWords, judgeOf}
+use Rattle.judging.specs.Judge.{unlessAt, wordRows, firstRows, judgeOf}
 use Rattle.readings.specs.declared.Refusal.{Refusal}
 use Rattle.readings.specs.declared.Refusal.the-variants.{Question, Room, Length, Character, Frame, Manchester, Echo, Pec, Alive, Check, Count}
 use Rattle.readings.specs.declared.Reading.{Reading}
@@ -44,11 +44,11 @@ no-row-is-zero Alive e = omega arith
 no-row-is-zero (Check b) e = omega arith
 no-row-is-zero (Count b) e = omega arith
 
-passed : (t : Bool) (why : Refusal) (next : Reading) → numberOf (unless t why next) ≡ 0 → (t ≡ true) × (numberOf next ≡ 0)
+passed : (t : Bool) (why : Refusal) (next : Reading) → numberOf (unless t (Refused why) next) ≡ 0 → (t ≡ true) × (numberOf next ≡ 0)
 passed true why next e = (refl, e)
 passed false why next e = absurd (no-row-is-zero why e)
 
-passed-at : (p : Place) (why : ℕ → Refusal) (next : Reading) → numberOf (unlessAt p why next) ≡ 0 → (p ≡ Nowhere) × (numberOf next ≡ 0)
+passed-at : (p : Place) (why : ℕ → Refusal) (next : Reading) → numberOf (unlessAt p (λ (i : ℕ). Refused (why i)) next) ≡ 0 → (p ≡ Nowhere) × (numberOf next ≡ 0)
 passed-at (At i) why next e = absurd (no-row-is-zero (why i) e)
 passed-at Nowhere why next e = (refl, e)
 
@@ -58,15 +58,15 @@ pub record Taken (q : asked.Question) (line : List ℕ) (room : ℕ) : Type 0 wh
   pub enough : shapeOf q .values ≤ room
   pub words : length line ≡ shapeOf q .words
   pub rows : Passes line
-  pub echo : echoed q line ≡ true
-  pub pec : pecRight q line ≡ true
-  pub alive : aliveRight q line ≡ true
-  pub check : checkByte q line ≡ 0
+  pub echo : echoed q (bytesOf line) ≡ true
+  pub pec : pecRight q (bytesOf line) ≡ true
+  pub alive : aliveRight q (bytesOf line) ≡ true
+  pub check : checkByte q (bytesOf line) ≡ 0
 
 module _ (q : asked.Question) (line : List ℕ) (room : ℕ) where
   -- where they pass, what is taken decides
-  pub taken-settles : Taken q line room → judgeOf q line room ≡ settled q line
-  unfolding judgeOf judgeWords judgeBytes
+  pub taken-settles : Taken q line room → judgeOf q line room ≡ settled q (bytesOf line)
+  unfolding judgeOf firstRows wordRows judgeBytes
   taken-settles t =
       goes-on _ _ _ (t .good) ∙ goes-on _ _ _ (le-leb _ _ (t .enough)) ∙ goes-on _ _ _ (eq-eqb _ _ (t .words))
       ∙ no-place _ _ _ (t .rows .characters) ∙ goes-on _ _ _ (t .rows .frame) ∙ no-place _ _ _ (t .rows .nibbles)
@@ -74,7 +74,7 @@ module _ (q : asked.Question) (line : List ℕ) (room : ℕ) where
 
   -- an accepted line passed them all
   pub accepted-takes : numberOf (judgeOf q line room) ≡ 0 → Taken q line room
-  unfolding judgeOf judgeWords judgeBytes
+  unfolding judgeOf firstRows wordRows judgeBytes
   accepted-takes e =
       let question = passed _ _ _ e in
       let space = passed _ _ _ (question .1) in
@@ -94,7 +94,7 @@ module _ (q : asked.Question) (line : List ℕ) (room : ℕ) where
         echo = echo .0;
         pec = pec .0;
         alive = alive .0;
-        check = eqb-true (checkByte q line) 0 (check .0);
+        check = eqb-true (checkByte q (bytesOf line)) 0 (check .0);
       }
 
 -- ---- values are handed out by reads alone, as many as they carry
@@ -107,13 +107,13 @@ count-values b m = by-test (leb 1 b && leb b 32)
     by-test true e = let z : _≡_ {A = ℕ} 0 1 = cc in omega arith
     by-test false e = let z : _≡_ {A = ℕ} 0 1 = cc in omega arith
 
-settled-values : (q : asked.Question) (line : List ℕ) (m : ℕ) → settled q line ≡ Values m → (m ≡ shapeOf q .values) × (3 ≤ q .kind)
-settled-values q line m e =
+settled-values : (q : asked.Question) (bytes : List ℕ) (m : ℕ) → settled q bytes ≡ Values m → (m ≡ shapeOf q .values) × (3 ≤ q .kind)
+settled-values q bytes m e =
     ⊎-elim
-    (λ (low : q .kind < 3). absurd (⊎-elim (λ hello. count-values (byteAt line 2) m (hello-settled q line hello ∙ e))
-    (λ lo. let w = write-settled q line lo (omega arith) in let z : _≡_ {A = ℕ} 0 1 = cc in omega arith)
+    (λ (low : q .kind < 3). absurd (⊎-elim (λ hello. count-values (byteIn bytes 2) m (hello-settled q bytes hello ∙ e))
+    (λ lo. let w = write-settled q bytes lo (omega arith) in let z : _≡_ {A = ℕ} 0 1 = cc in omega arith)
     (eq-zero-or-pos (q .kind))))
-    (λ read. (let r = read-settled q line read in cc, read)) (below-or-not (q .kind) 3)
+    (λ read. (let r = read-settled q bytes read in cc, read)) (below-or-not (q .kind) 3)
 
 pub record Carries (q : asked.Question) (line : List ℕ) (room m : ℕ) : Type 0 where
   pub taken : Taken q line room
@@ -123,7 +123,7 @@ pub record Carries (q : asked.Question) (line : List ℕ) (room m : ℕ) : Type 
 pub carries : (q : asked.Question) (line : List ℕ) (room m : ℕ) → judgeOf q line room ≡ Values m → Carries q line room m
 carries q line room m e =
     let taken = accepted-takes q line room (ap numberOf e) in
-    let is = settled-values q line m (sym (taken-settles q line room taken) ∙ e) in
+    let is = settled-values q (bytesOf line) m (sym (taken-settles q line room taken) ∙ e) in
     record { taken = taken; values = is .0; read = is .1 }
 
 -- values come only from an answer that carries them

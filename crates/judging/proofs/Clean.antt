@@ -19,13 +19,12 @@ use Rattle.scanning.specs.Frame.{framed}
 use Rattle.scanning.specs.declared.Place.{Place}
 use Rattle.scanning.specs.declared.Place.the-variants.{At, Nowhere}
 use Rattle.scanning.proofs.FirstPlace.{nowhere-passes, passes-nowhere, nibbles-nowhere, nowhere-nibbles}
-use Rattle.questions.specs.declared.question.Question.{Question}
+use Rattle.readings.specs.declared.Refusal.{Refusal}
 use Rattle.readings.specs.declared.Refusal.the-variants.{Character, Frame, Manchester}
-use Rattle.readings.specs.declared.Reading.the-variants.{Refused}
-use Rattle.contents.specs.InOrder.{unless, judgeBytes}
+use Rattle.contents.specs.InOrder.{unless}
 use Rattle.contents.proofs.Unless.{goes-on}
-use Rattle.judging.specs.Judge.{unlessAt, judgeWords}
-use Rattle.judging.specs.Clean.{isClean, spoiled}
+use Rattle.judging.specs.Judge.{unlessAt, wordRows}
+use Rattle.judging.specs.Clean.{isClean}
 use Rattle.judging.proofs.UnlessAt.{no-place}
 
 module _ (line : List ℕ) (clean : isClean line ≡ true) where
@@ -65,19 +64,22 @@ module _ (line : List ℕ) (clean : isClean line ≡ true) where
   unfolding firstNoCharacter
   characters = passes-nowhere isCharacter line 0 (length line) (λ j lo hi. each-character j (omega arith))
 
-  pub clean-judged : (q : Question) → judgeBytes q line ≡ judgeWords q line
-  unfolding judgeWords
-  clean-judged q = sym (no-place _ _ _ characters ∙ goes-on _ _ _ frame ∙ no-place _ _ _ nibbles)
+  pub clean-passes : {A : Type 0} (away : Refusal → A) (next : A) → wordRows away line next ≡ next
+  unfolding wordRows
+  clean-passes away next = no-place _ _ _ characters ∙ goes-on _ _ _ frame ∙ no-place _ _ _ nibbles
 
-pub spoiled-judged : (q : Question) (line : List ℕ) → isClean line ≡ false → spoiled line ≡ judgeWords q line
-unfolding isClean judgeWords
-spoiled-judged q line e = ap (unlessAt (firstNoCharacter line) Character) (by-frame (framed line) e)
+-- so what is said where all three pass plays no part
+pub spoiled-turned : {A : Type 0} (away : Refusal → A) (line : List ℕ) (one other : A) → isClean line ≡ false → wordRows away line one ≡ wordRows away line other
+unfolding isClean wordRows
+spoiled-turned {A} away line one other e = ap (unlessAt (firstNoCharacter line) (λ (i : ℕ). away (Character i))) (by-frame (framed line) e)
   where
-    by-place : (p : Place) → firstNoNibble line ≡ p → allNibbles line ≡ false → unlessAt p Manchester (Refused Frame) ≡ unlessAt p Manchester (judgeBytes q line)
+    by-place : (p : Place) → firstNoNibble line ≡ p → allNibbles line ≡ false
+        → unlessAt p (λ (i : ℕ). away (Manchester i)) one ≡ unlessAt p (λ (i : ℕ). away (Manchester i)) other
     by-place (At i) is some = refl
     by-place Nowhere is some = absurd (true≢false (sym (nowhere-nibbles line is) ∙ some))
 
     by-frame : (t : Bool) → (t && allNibbles line) ≡ false
-        → unless t Frame (unlessAt (firstNoNibble line) Manchester (Refused Frame)) ≡ unless t Frame (unlessAt (firstNoNibble line) Manchester (judgeBytes q line))
+        → unless t (away Frame) (unlessAt (firstNoNibble line) (λ (i : ℕ). away (Manchester i)) one)
+        ≡ unless t (away Frame) (unlessAt (firstNoNibble line) (λ (i : ℕ). away (Manchester i)) other)
     by-frame true some = by-place (firstNoNibble line) refl some
     by-frame false some = refl

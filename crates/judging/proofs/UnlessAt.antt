@@ -4,12 +4,9 @@ use Prim.Native.Nat.{ℕ}
 use Rattle.scanning.specs.declared.Place.{Place}
 use Rattle.scanning.specs.declared.Place.the-variants.{At, Nowhere}
 use Rattle.judging.specs.Judge.{unlessAt}
-use Rattle.readings.specs.declared.Refusal.{Refusal}
-use Rattle.readings.specs.declared.Reading.{Reading}
-use Rattle.readings.specs.declared.Reading.the-variants.{Refused}
 
-pub no-place : (p : Place) (why : ℕ → Refusal) (next : Reading) → p ≡ Nowhere → unlessAt p why next ≡ next
-no-place p why next e = ap (λ (p : Place). unlessAt p why next) e
+pub no-place : {A : Type 0} (p : Place) (away : ℕ → A) (next : A) → p ≡ Nowhere → unlessAt p away next ≡ next
+no-place p away next e = ap (λ (p : Place). unlessAt p away next) e
 
-pub at-place : (p : Place) (why : ℕ → Refusal) (next : Reading) (i : ℕ) → p ≡ At i → unlessAt p why next ≡ Refused (why i)
-at-place p why next i e = ap (λ (p : Place). unlessAt p why next) e
+pub at-place : {A : Type 0} (p : Place) (away : ℕ → A) (next : A) (i : ℕ) → p ≡ At i → unlessAt p away next ≡ away i
+at-place p away next i e = ap (λ (p : Place). unlessAt p away next) e

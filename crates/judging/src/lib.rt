@@ -1,9 +1,7 @@
-// The rows of document 01's "Turned away", each over the whole line before the next: what is said of an answer, with room for so many values.
-use contents::judge_bytes;
+// Rows 1 to 6 of document 01's "Turned away", each over the whole line before the next: what is asked of an answer before its bytes are looked at.
 use questions::question::Question;
 use questions::question::is_good;
 use questions::question::shape_of;
-use readings::Reading;
 use readings::Refusal;
 use scanning::Place;
 use scanning::all_nibbles;
@@ -11,17 +9,23 @@ use scanning::first_no_character;
 use scanning::first_no_nibble;
 use scanning::is_framed;
 ghost use mathlib.Core.Path.{_≡_};
-ghost use Rattle.judging.specs.Judge.{judgeWords, judgeOf};
+ghost use Rattle.judging.specs.Judge.{screenOf, screenWords};
 ghost use Rattle.judging.specs.Clean.{isClean, spoiled};
 
-// Rows 4 to 6, then the rest. A nibble is a character: a line that is framed and has nibbles between needs no other look.
-fn judge_words(q: Question, line: &[u16]) -> Reading
-    ensures { λ r. ⌜ r ≡ judgeWords q (now (line .entry)) ⌝ }
+// Whether one of these rows turns a line away, and which.
+pub enum Screened {
+    Passed,
+    Faulty(Refusal),
+}
+
+// Rows 4 to 6. A nibble is a character: a line that is framed and has nibbles between needs no other look.
+fn screen_words(line: &[u16]) -> Screened
+    ensures { λ r. ⌜ r ≡ screenWords (now (line .entry)) ⌝ }
 {
     if is_clean(line) {
-        return judge_bytes(q, line);
+        return Screened::Passed;
     }
-    judge_spoiled(line)
+    screen_spoiled(line)
 }
 
 fn is_clean(line: &[u16]) -> bool
@@ -35,38 +39,38 @@ fn is_clean(line: &[u16]) -> bool
 
 // Which of rows 4 to 6 turns away a line that is not clean, each over the whole line before the next. A line that all three pass is clean, and
 // nothing is asked of it here.
-fn judge_spoiled(line: &[u16]) -> Reading
+fn screen_spoiled(line: &[u16]) -> Screened
     ensures { λ r. ⌜ r ≡ spoiled (now (line .entry)) ⌝ }
 {
     let bad = first_no_character(line);
     if let Place::At(i) = bad {
-        return Reading::Refused(Refusal::Character(i));
+        return Screened::Faulty(Refusal::Character(i));
     }
     if !is_framed(line) {
-        return Reading::Refused(Refusal::Frame);
+        return Screened::Faulty(Refusal::Frame);
     }
     let odd = first_no_nibble(line);
     if let Place::At(i) = odd {
-        return Reading::Refused(Refusal::Manchester(i));
+        return Screened::Faulty(Refusal::Manchester(i));
     }
-    Reading::Refused(Refusal::Frame)
+    Screened::Faulty(Refusal::Frame)
 }
 
-// All rows, with room for so many values.
-pub fn judge(q: Question, line: &[u16], room: usize) -> Reading
-    ensures { λ r. ⌜ r ≡ judgeOf q (now (line .entry)) room ⌝ }
+// Rows 1 to 6, with room for so many values.
+pub fn screen(q: Question, line: &[u16], room: usize) -> Screened
+    ensures { λ r. ⌜ r ≡ screenOf q (now (line .entry)) room ⌝ }
 {
     if !is_good(q) {
-        return Reading::Refused(Refusal::Question);
+        return Screened::Faulty(Refusal::Question);
     }
     let s = shape_of(q);
     let values = s.values;
     if room < values {
-        return Reading::Refused(Refusal::Room);
+        return Screened::Faulty(Refusal::Room);
     }
     let words = s.words;
     if line.len() != words {
-        return Reading::Refused(Refusal::Length);
+        return Screened::Faulty(Refusal::Length);
     }
-    judge_words(q, line)
+    screen_words(line)
 }

@@ -1,3 +1,5 @@
+mod Between
+mod SoFar
 pub mod Entry
 pub mod Appended
 mod LastOne

@@ -4,7 +4,6 @@ use mathlib.Core.Path.{_≡_, refl, sym, ap, ap₂, _∙_}
 use mathlib.Core.Bool.{Bool, true, false, cond, _&&_}
 use mathlib.Core.List.{List}
 use Prim.Native.Nat.{ℕ, _<_}
-use lib.Dec.{eqb}
 use lib.ListN.{getD}
 use Rattle.ground.proofs.Test.{and-left, and-right}
 use Rattle.questions.specs.Question.{covers}
@@ -12,17 +11,13 @@ use Rattle.questions.specs.declared.question.Question.{Question}
 use Rattle.letters.specs.Letters.{Heard, isGoodWrite, decides, verdict, unheard, begun, heardFrom, standingAfter}
 use Rattle.letters.specs.Meaning.{goodWrite, isValues, decisive, Alike, AllAlike}
 use Rattle.letters.specs.declared.Standing.{Standing}
+use Rattle.letters.proofs.Between.{decides-covers}
 use Rattle.letters.proofs.Entry.{heard, good-write-starts-anew, other-entry-keeps-write, nextLetter, letter-next}
 
 -- two choices by one test, alike where they are taken
 chosen-alike : (t t′ : Bool) (x x′ y y′ : ℕ) → t ≡ t′ → (t ≡ true → x ≡ x′) → y ≡ y′ → cond t x y ≡ cond t′ x′ y′
 chosen-alike true t′ x x′ y y′ e taken left = taken refl ∙ ap (λ (t : Bool). cond t x′ y′) e
 chosen-alike false t′ x x′ y y′ e taken left = left ∙ ap (λ (t : Bool). cond t x′ y′) e
-
--- a question that decides covers the device
-decides-covers : (write q : Question) (a : ℕ) → decides write q a ≡ true → covers q a ≡ true
-unfolding decides
-decides-covers write q a d = and-right (eqb (q .reg) (write .reg)) (covers q a) (and-left _ (covers write a) d)
 
 module _ (a : ℕ) where
   -- what device a is told of the standing state

@@ -5,12 +5,13 @@ use questions::question::Question;
 use questions::question::READALL;
 use questions::question::WRITEALL;
 use questions::question::WRITEDEVICE;
-use questions::question::is_covered;
 use questions::question::is_good;
 use readings::Reading;
 ghost use mathlib.Core.Path.{_≡_};
+ghost use Prim.Native.Nat.{min, max};
 ghost use lib.ListN.{getD};
-ghost use Rattle.letters.specs.Letters.{isGoodWrite, valueFor, letterAfter, unheard, decided, hearOf, begun};
+ghost use Rattle.letters.specs.Letters.{isGoodWrite, valueFor, verdict, unheard, decided, hearOf, begun};
+ghost use Rattle.letters.specs.Span.{spanOf};
 
 // The letters, as the certificate prints them.
 pub const SAME: u8 = 0x53;
@@ -76,11 +77,11 @@ fn is_good_write(q: Question) -> bool
 }
 
 // Of the values that a read handed out, a device's own: READALL's come in address order, READDEVICE has one.
-fn value_for(q: Question, device: u8, values: &[u16]) -> u16
+fn value_for(q: Question, device: usize, values: &[u16]) -> u16
     ensures { λ r. ⌜ r ≡ valueFor q device (now (values .entry)) ⌝ }
 {
     if q.kind == READALL {
-        value_at(values, device as usize)
+        value_at(values, device)
     } else {
         value_at(values, 0)
     }
@@ -93,36 +94,63 @@ fn value_at(values: &[u16], at: usize) -> u16
     if at < values.len() { values[at] } else { 0 }
 }
 
-// A device's letter after an accepted read.
-fn letter_after(write: Question, q: Question, device: u8, values: &[u16], letter: u8) -> u8
-    ensures { λ r. ⌜ r ≡ letterAfter write q device (now (values .entry)) letter ⌝ }
+// S where the value is the one written, else O.
+fn verdict_of(value: u16, written: u16) -> u8
+    ensures { λ r. ⌜ r ≡ verdict value written ⌝ }
 {
-    if q.reg != write.reg {
-        return letter;
-    }
-    if !is_covered(q, device) {
-        return letter;
-    }
-    if !is_covered(write, device) {
-        return letter;
-    }
-    if value_for(q, device, values) == write.value {
-        SAME
-    } else {
-        OTHER
-    }
+    if value == written { SAME } else { OTHER }
 }
 
+// An accepted read of the written register decides the devices that both it and the write cover, and looks at no other.
 fn decide(standing: Standing, q: Question, values: &[u16]) -> Standing
     ensures { λ r. ⌜ r ≡ decided standing q (now (values .entry)) ⌝ }
 {
     let write = standing.write;
+    if q.reg != write.reg {
+        return standing;
+    }
     let mut letters = standing.letters;
-    let mut device: u8 = 0;
-    while device < 32 {
-        let at = device as usize;
-        letters[at] = letter_after(write, q, device, values, letters[at]);
-        device += 1;
+    let asked = span_of(q);
+    let written = span_of(write);
+    let end = least(32, least(asked.end, written.end));
+    let mut at = most(asked.first, written.first);
+    while at < end {
+        letters[at] = verdict_of(value_for(q, at, values), write.value);
+        at += 1;
     }
     Standing { write, letters }
+}
+
+// The devices that a question covers stand together: the first of them, and the one behind the last.
+struct Span {
+    first: usize,
+    end: usize,
+}
+
+fn span_of(q: Question) -> Span
+    ensures { λ r. ⌜ r ≡ spanOf q ⌝ }
+{
+    let kind = q.kind;
+    let n = q.n as usize;
+    let device = q.device as usize;
+    match kind {
+        HELLOALL => Span { first: 0, end: 0 },
+        WRITEALL | READALL => Span { first: 0, end: n },
+        _ => Span {
+            first: device,
+            end: device + 1,
+        },
+    }
+}
+
+fn least(a: usize, b: usize) -> usize
+    ensures { λ r. ⌜ r ≡ min a b ⌝ }
+{
+    if a < b { a } else { b }
+}
+
+fn most(a: usize, b: usize) -> usize
+    ensures { λ r. ⌜ r ≡ max a b ⌝ }
+{
+    if a < b { b } else { a }
 }

@@ -1,4 +1,4 @@
-mod TwoNibbles
 pub mod Line
+mod Nibbles
 pub mod LineDistance
 pub mod Agree

@@ -6,11 +6,11 @@ use Prim.Native.Nat.{ℕ, zero, suc, min, _+_, _-_, _*_, _/_, _%_, _≤_, _<_}
 use native.Mathlib.Nat.{not-suc-le-zero, zero-add}
 use native.Mathlib.Numerals.{one-add}
 use native.Mathlib.Omega.{arith}
-use lib.ListN.{length, getD, take, drop, length-take, length-drop, length-append, List·getD-append, List·getD-eq-default}
-use lib.Seq.{ext-getD, getD-at, getD-take, getD-drop, drop-drop, sets}
+use lib.ListN.{length, getD, length-append, List·getD-append, List·getD-eq-default}
+use lib.Seq.{ext-getD, getD-at, sets}
 use Rattle.ground.proofs.Test.{below-or-not}
-use Rattle.ground.proofs.Sweep.{tabulated-at, length-tabulated, tabulated-same}
-use Rattle.ground.proofs.Lists.{tabulated-front, filled-whole}
+use Rattle.ground.proofs.Sweep.{tabulated-at, length-tabulated}
+use Rattle.ground.proofs.Lists.{filled-whole}
 use Rattle.remainder.specs.Turned.{Bytes}
 use Rattle.characters.specs.Character.{stop}
 use Rattle.characters.specs.Nibble.{nibbleWord, trueBits}
@@ -98,26 +98,6 @@ bytes-of-line bytes b =
     let count : length (bytesOf (lineOf bytes)) ≡ length bytes = omega (arith, length-bytes (lineOf bytes), length-line bytes) in
     ext-getD 0 (bytesOf (lineOf bytes)) bytes count
     (λ i h. bytes-at (lineOf bytes) i (omega (arith, length-bytes (lineOf bytes))) ∙ byte-of-line bytes b i (omega arith))
-
--- ---- the bytes of a line up to one of them
-
-pub length-part : (line : List ℕ) (to : ℕ) → length (take to (bytesOf line)) ≡ min to (byteCount line)
-length-part line to = length-take to (bytesOf line) ∙ ap (min to) (length-bytes line)
-
-pub part-at : (line : List ℕ) (to i : ℕ) → i < min to (byteCount line) → getD (take to (bytesOf line)) i 0 ≡ byteAt line i
-part-at line to i h = getD-take to (bytesOf line) i 0 (omega arith) ∙ bytes-at line i (omega arith)
-
--- some of them, and the rest
-pub part-next : (line : List ℕ) (to i m : ℕ) → i + m ≤ min to (byteCount line)
-    → drop i (take to (bytesOf line)) ≡ bytesFrom line i m ++ drop (i + m) (take to (bytesOf line))
-part-next line to i m h =
-    let part = take to (bytesOf line) in
-    let enough : m ≤ length (drop i part) = omega (arith, length-drop i part, length-part line to) in
-    tabulated-front m (drop i part) enough
-    ∙ ap₂ _++_
-    (tabulated-same (λ (k : ℕ). getD (drop i part) k 0) (λ (k : ℕ). byteAt line (i + k)) m 0
-    (λ k inside. getD-drop i part k 0 ∙ part-at line to (i + k) (omega arith)))
-    (drop-drop m i part)
 
 -- where the line has as many bytes as are lent, all of them are read
 pub all-read : (line out : List ℕ) (from count : ℕ) → length out ≡ count → count ≤ byteCount line - from

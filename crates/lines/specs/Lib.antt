@@ -1,2 +1,3 @@
 pub mod Line
+pub mod Nibbles
 pub mod Write

@@ -1,9 +1,8 @@
 -- A line (document 01, "The line" and "Commands and answers"): preamble, bytes, stop. A byte is two characters, low nibble first.
 use mathlib.Core.List.{List, [], _∷_, _++_}
 use Prim.Native.Nat.{ℕ, _+_, _-_, _*_, _/_, _%_}
-use lib.ListN.{length, getD, take, drop}
+use lib.ListN.{length, getD}
 use Rattle.ground.specs.Sweep.{tabulated}
-use Rattle.pec.specs.Pec.{pecOf}
 use Rattle.characters.specs.Character.{preamble, stop}
 use Rattle.characters.specs.Nibble.{nibbleWord, trueBits}
 
@@ -30,7 +29,3 @@ bytesOf line = tabulated (byteAt line) (byteCount line) 0
 -- some bytes of a line, from a place on
 abbrev pub bytesFrom : List ℕ → (from count : ℕ) → List ℕ
 bytesFrom line from count = tabulated (λ k. byteAt line (from + k)) count 0
-
--- the PEC of a line's bytes from one place up to another
-unfoldable pub pecOver : List ℕ → (from to : ℕ) → ℕ
-pecOver line from to = pecOf (drop from (take to (bytesOf line)))

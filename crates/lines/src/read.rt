@@ -1,13 +1,13 @@
-// What stands on a line: its bytes and their PEC.
-use pec::pec_from;
+// What stands on a line: its bytes.
+use characters::true_bits;
 ghost use mathlib.Core.Path.{_≡_};
-ghost use Prim.Native.Nat.{_+_, _-_, _*_, _≤_, _<_, min};
+ghost use Prim.Native.Nat.{ℕ, _+_, _-_, _*_, _≤_, _<_, min};
 ghost use lib.ListN.{length, getD};
 ghost use lib.Seq.{sets};
-ghost use Rattle.remainder.specs.Register.{run};
+ghost use Rattle.ground.specs.Sweep.{tabulated};
 ghost use Rattle.characters.specs.Nibble.{trueBits};
-ghost use Rattle.pec.specs.Pec.{byteStep};
-ghost use Rattle.lines.specs.Line.{byteAt, byteCount, bytesFrom, pecOver};
+ghost use Rattle.lines.specs.Line.{byteAt, byteCount, bytesFrom};
+ghost use Rattle.lines.specs.Nibbles.{nibbleIn, twoOf};
 
 // The word at a place, 0 past the end.
 fn word_at(line: &[u16], i: usize) -> u16
@@ -38,38 +38,8 @@ fn byte_count(line: &[u16]) -> usize
     (line.len() - 2) / 2
 }
 
-// The PEC of the bytes of a line from one place up to another. The bytes are read off the line part by part, a READALL answer's in one.
-pub fn pec_over(line: &[u16], from: usize, to: usize) -> u8
-    ensures { λ r. ⌜ r ≡ pecOver (now (line .entry)) from to ⌝ }
-{
-    let count = byte_count(line);
-    let end = least(to, count);
-    let mut crc: u8 = 0;
-    let mut i = from;
-    while i < end {
-        let part = least(end - i, 72);
-        crc = take_in_part(crc, line, i, part);
-        i += part;
-    }
-    crc
-}
-
-fn take_in_part(crc: u8, line: &[u16], from: usize, count: usize) -> u8
-    requires { ⌜ (count ≤ 72) × (from + count ≤ byteCount (now line)) ⌝ }
-    ensures { λ r. ⌜ r ≡ run byteStep crc (bytesFrom (now (line .entry)) from count) ⌝ }
-{
-    let mut bytes = blank_part();
-    read_bytes(line, from, &mut bytes[..count]);
-    pec_from(crc, &bytes[..count])
-}
-
-fn blank_part() -> [u8; 72]
-    ensures { λ r. ⌜ length r ≡ 72 ⌝ }
-{
-    [0; 72]
-}
-
-// The bytes of a line from a place on, at the front of the lent bytes, as many as the line has and as there is room for; the rest stays.
+// The bytes of a line from a place on, at the front of the lent bytes, as many as the line has and as there is room for; the rest stays. They are
+// read part by part; the longest answer has 69 bytes, and is one.
 pub fn read_bytes(line: &[u16], from: usize, out: &mut [u8])
     ensures { λ _. ⌜ now (out .exit) ≡ sets (now (out .entry)) 0 (bytesFrom (now (line .entry)) from (min (length (now (out .entry))) (byteCount (now (line .entry)) - from))) ⌝ }
 {
@@ -80,28 +50,69 @@ pub fn read_bytes(line: &[u16], from: usize, out: &mut [u8])
     let many = least(out.len(), count - from);
     let mut k = 0;
     while k < many {
-        out[k] = byte_in(line, from + k);
+        let part = least(many - k, 72);
+        let start = 1 + 2 * (from + k);
+        read_part(&line[start..start + 2 * part], &mut out[k..k + part]);
+        k += part;
+    }
+}
+
+// The bytes that some words carry, as many as are lent: first each word's nibble, then the nibbles two by two, low nibble first. In neither loop
+// does a place look at another's answer, so a compiler takes many at a time.
+fn read_part(words: &[u16], out: &mut [u8])
+    requires { ⌜ (length (now words) ≡ 2 * length (now out)) × (length (now out) ≤ 72) ⌝ }
+    ensures { λ _. ⌜ now (out .exit) ≡ tabulated (twoOf (nibbleIn (now (words .entry)))) (length (now (out .entry))) 0 ⌝ }
+{
+    let mut nibbles = blank_nibbles();
+    let end = words.len();
+    put_nibbles(words, &mut nibbles[..end]);
+    join_nibbles(&nibbles[..end], out);
+}
+
+fn blank_nibbles() -> [u8; 144]
+    ensures { λ r. ⌜ length r ≡ 144 ⌝ }
+{
+    [0; 144]
+}
+
+// The nibble of each word.
+fn put_nibbles(words: &[u16], out: &mut [u8])
+    requires { ⌜ length (now out) ≡ length (now words) ⌝ }
+    ensures { λ _. ⌜ now (out .exit) ≡ tabulated (nibbleIn (now (words .entry))) (length (now (words .entry))) 0 ⌝ }
+{
+    let mut k = 0;
+    while k < words.len() {
+        out[k] = true_bits(words[k]);
         k += 1;
     }
 }
 
-// Byte i of a line that has it.
-fn byte_in(line: &[u16], i: usize) -> u8
-    requires { ⌜ i < byteCount (now line) ⌝ }
-    ensures { λ r. ⌜ r ≡ byteAt (now (line .entry)) i ⌝ }
+// The bytes of some nibbles, two by two.
+fn join_nibbles(nibbles: &[u8], out: &mut [u8])
+    requires { ⌜ (length (now nibbles) ≡ 2 * length (now out)) × ((k : ℕ) → getD (now nibbles) k 0 < 16) ⌝ }
+    ensures { λ _. ⌜ now (out .exit) ≡ tabulated (twoOf (λ i. getD (now (nibbles .entry)) i 0)) (length (now (out .entry))) 0 ⌝ }
 {
-    two_nibbles(line[1 + 2 * i], line[2 + 2 * i])
+    let mut k = 0;
+    while k < out.len() {
+        out[k] = joined(nibbles[2 * k], nibbles[2 * k + 1]);
+        k += 1;
+    }
 }
 
-// The byte of two characters, low nibble first: the true bits of both are gathered at once.
+// The byte of two nibbles. Both stand in one number, of which the high one is shifted down: so a loop over pairs of bytes reads them as one.
+fn joined(low: u8, high: u8) -> u8
+    requires { ⌜ (low < 16) × (high < 16) ⌝ }
+    ensures { λ r. ⌜ r ≡ low + 16 * high ⌝ }
+{
+    let both = low as u16 + 256 * high as u16;
+    ((both | both / 16) & 0xFF) as u8
+}
+
+// The byte of two characters, low nibble first.
 fn two_nibbles(low: u16, high: u16) -> u8
     ensures { λ r. ⌜ r ≡ trueBits low + 16 * trueBits high ⌝ }
 {
-    let both = low as u32 + 65536 * high as u32;
-    let singles = (both / 2) & 0x550055;
-    let pairs = (singles | singles / 2) & 0x330033;
-    let nibbles = (pairs | pairs / 4) & 0xF000F;
-    ((nibbles | nibbles / 4096) & 0xFF) as u8
+    true_bits(low) + 16 * true_bits(high)
 }
 
 fn least(a: usize, b: usize) -> usize

@@ -1,9 +1,8 @@
 // The second call: the part of an accepted line that carries a named device's register (document 01, below "Commands and answers").
-use judging::judge;
 use questions::question::Question;
 use questions::question::READALL;
 use questions::question::is_covered;
-use questions::question::shape_of;
+use reader::read::read;
 use readings::values_taken;
 ghost use mathlib.Core.Path.{_≡_};
 ghost use Rattle.parts.specs.Part.{orderOf, valuesFound, startOf, partOf};
@@ -35,13 +34,12 @@ pub fn part_start(q: Question, line: &[u16], device: u8) -> usize
     5 + 4 * (m - 1 - k)
 }
 
-// How many values an accepted line carries: room plays no part.
+// How many values an accepted line carries: there is room for any answer's.
 fn carried_by(q: Question, line: &[u16]) -> usize
     ensures { λ r. ⌜ r ≡ valuesFound q (now (line .entry)) ⌝ }
 {
-    let s = shape_of(q);
-    let room = s.values;
-    values_taken(judge(q, line, room))
+    let mut values: [u16; 32] = [0; 32];
+    values_taken(read(q, line, &mut values))
 }
 
 // How many devices with values in the answer stand below this one.

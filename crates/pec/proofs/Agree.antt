@@ -3,13 +3,9 @@ use mathlib.Core.Path.{sym, _∙_}
 use Rattle.ground.specs.Agree.{Settled}
 use Rattle.pec.proofs.step.Reads as step
 use Rattle.pec.proofs.pec.Reads as pec
-use Rattle.pec.proofs.pec_from.Reads as pec-from
 
 pub step-settled : Settled step.Post
 step-settled l given r r′ left left′ p q = p ∙ sym q
 
 pub pec-settled : Settled pec.Post
 pec-settled l given r r′ left left′ p q = p ∙ sym q
-
-pub pec-from-settled : Settled pec-from.Post
-pec-from-settled l given r r′ left left′ p q = p ∙ sym q

@@ -1,12 +1,12 @@
--- Laws of one byte of the PEC: it is linear, it keeps to bytes, and it takes no state but 0 to 0.
+-- Laws of one byte of the PEC: it is linear, it keeps to bytes, it takes no state but 0 to 0, and table and shifts both do its eight bits at once.
 use mathlib.Core.Path.{_≡_, refl, sym, ap, ap₂, _∙_}
 use mathlib.Core.Bool.{Bool, true, _&&_, _||_, cond}
 use mathlib.Core.Logic.{⊎-elim}
 use mathlib.Core.List.{List, [], _∷_}
 use Prim.Native.Nat.{ℕ, suc, _+_, _-_, _*_, _/_, _%_, _^_, _<_}
-use native.Mathlib.Nat.{mod-lt, zero-lt-suc, zero-add}
+use native.Mathlib.Nat.{mod-lt, zero-lt-suc, zero-add, div-le-self}
 use native.Mathlib.Omega.{arith}
-use lib.Bits.{bitXor, xor-zero-r, xor-lt}
+use lib.Bits.{bitXor, bitAnd, xor-zero-r, xor-lt, and-le-r}
 use lib.Dec.{eqb, ltb, lit<}
 use lib.ListN.{getD}
 use borrow.Author.Tests.{ltb-true, eqb-true}
@@ -85,3 +85,43 @@ pub by-table : (crc byte : ℕ) → crc < 256 → byte < 256 → getD remainderT
 unfolding byteStep
 by-table crc byte small few =
     tabulated-at (times 8 bitStep) 256 0 (bitXor crc byte) (xor-lt 8 crc byte small few) ∙ ap (times 8 bitStep) (zero-add (bitXor crc byte))
+
+-- ---- the PEC of a few bytes, one step after the other
+
+pub three-steps : (x y z : ℕ) {e f g : ℕ} → e ≡ byteStep 0 x → f ≡ byteStep e y → g ≡ byteStep f z → g ≡ pecOf (x ∷ y ∷ z ∷ [])
+unfolding pecOf run
+three-steps x y z p q r = r ∙ ap (λ (s : ℕ). byteStep s z) (q ∙ ap (λ (s : ℕ). byteStep s y) p)
+
+pub four-steps : (x y z w : ℕ) {e f g h : ℕ} → e ≡ byteStep 0 x → f ≡ byteStep e y → g ≡ byteStep f z → h ≡ byteStep g w
+    → h ≡ pecOf (x ∷ y ∷ z ∷ w ∷ [])
+unfolding pecOf run
+four-steps x y z w p q r last = last ∙ ap (λ (s : ℕ). byteStep s w) (three-steps x y z p q r)
+
+-- ---- eight bits at once, by shifts
+
+-- a state brought together with itself moved up, cut down to a byte
+abbrev up : (a b c : ℕ) → ℕ → ℕ
+up a b c x = bitAnd (bitXor (bitXor (bitXor x (x * a)) (x * b)) (x * c)) 0xFF
+
+-- and with itself moved down
+abbrev down : (d e f : ℕ) → ℕ → ℕ
+down d e f q = bitXor (bitXor (bitXor q (q / d)) (q / e)) (q / f)
+
+-- of what was cut down to a byte, a byte is left
+pub down-lt : (d e f x : ℕ) → down d e f (bitAnd x 0xFF) < 256
+down-lt d e f x =
+    let q = bitAnd x 0xFF in
+    let small : q < 256 = omega (arith, and-le-r x 0xFF) in
+    let less : (k : ℕ) → q / k < 256 = λ k. omega (arith, div-le-self q k) in
+    xor-lt 8 _ (q / f) (xor-lt 8 _ (q / e) (xor-lt 8 q (q / d) small (less d)) (less e)) (less f)
+
+-- Whether these shifts do it, at each of the 256 states, is computed where the code names them.
+module _ (a b c d e f : ℕ) where
+  unfoldable pub shifts : ℕ → Bool
+  shifts x = eqb (down d e f (up a b c x)) (eightBits x)
+
+  pub by-shifts : (crc byte : ℕ) → crc < 256 → byte < 256 → every shifts 256 ≡ true → down d e f (up a b c (bitXor crc byte)) ≡ byteStep crc byte
+  unfolding shifts
+  by-shifts crc byte small few all =
+      let x = bitXor crc byte in
+      eqb-true (down d e f (up a b c x)) (eightBits x) (swept shifts 256 all x (xor-lt 8 crc byte small few)) ∙ sym (byte-is crc byte)

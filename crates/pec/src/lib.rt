@@ -24,12 +24,13 @@ fn moved_states() -> [u8; 256]
     MOVED
 }
 
-// The PEC so far, with one more byte taken in.
+// The PEC so far, with one more byte taken in. For a few bytes these shifts, which do the eight bits at once, cost less than laying out the table.
 pub fn step(crc: u8, byte: u8) -> u8
     ensures { λ r. ⌜ r ≡ byteStep crc byte ⌝ }
 {
-    let table = remainders();
-    take_in(&table, crc, byte)
+    let x = (crc ^ byte) as u32;
+    let q = (x ^ (x * 4) ^ (x * 16) ^ (x * 32)) & 0xFF;
+    (q ^ (q / 4) ^ (q / 8) ^ (q / 64)) as u8
 }
 
 fn take_in(table: &[u8; 256], crc: u8, byte: u8) -> u8
@@ -56,7 +57,7 @@ pub fn pec(bytes: &[u8]) -> u8
 
 // The PEC so far, with some more bytes taken in. Four bytes at a time are brought on to the next four, which no byte has to wait for; the last
 // four and what is left behind them are taken in one by one.
-pub fn pec_from(crc: u8, bytes: &[u8]) -> u8
+fn pec_from(crc: u8, bytes: &[u8]) -> u8
     ensures { λ r. ⌜ r ≡ run byteStep crc (now (bytes .entry)) ⌝ }
 {
     let remainders = remainders();

@@ -9,8 +9,10 @@ use native.Mathlib.Nat.{le-refl}
 use native.Mathlib.Omega.{arith}
 use lib.Dec.{leb}
 use lib.ListN.{length}
-use Rattle.lines.specs.Line.{byteAt}
+use Rattle.lines.specs.Line.{byteAt, bytesOf}
+use Rattle.lines.proofs.Line.{bytes-at}
 use Rattle.lines.specs.Write.{atFront}
+use Rattle.questions.proofs.Good.{hello-shape, words-most}
 use Rattle.questions.specs.Question.{helloAll}
 use Rattle.questions.specs.Shape.{shapeOf}
 use Rattle.questions.specs.declared.question.Question as asked
@@ -23,11 +25,11 @@ use Rattle.reader.specs.Read.{ReadDone}
 use Rattle.readings.specs.declared.Refusal.the-variants.{Count}
 use Rattle.readings.specs.declared.Reading.{Reading}
 use Rattle.readings.specs.declared.Reading.the-variants.{Counted, Refused}
-use Rattle.contents.specs.Rows.{settledCount}
+use Rattle.contents.specs.Rows.{byteIn, settledCount}
 use Rattle.contents.proofs.RowLaws.{hello-settled}
 use Rattle.judging.proofs.Accepted.{taken-settles, accepted-takes}
 use Rattle.acceptance.specs.Answer.{Sendable}
-use Rattle.acceptance.proofs.Lengths.{command-words, words-most}
+use Rattle.acceptance.proofs.Lengths.{command-words}
 use Rattle.acceptance.proofs.AcceptedIsAnAnswer.{accepted-is-an-answer}
 use Rattle.acceptance.proofs.AnswerIsAccepted.{answer-is-accepted, accepted-reading}
 use Rattle.letters.specs.Letters.{Heard}
@@ -81,7 +83,8 @@ module _ (q : asked.Question) (line before after : List ℕ) (r : Reading) (done
   unfolding settledCount
   hello-count hello accepted =
       let taken = accepted-takes q line (length before) (ap numberOf (sym (done .says)) ∙ accepted) in
-      let settles = done .says ∙ taken-settles q line (length before) taken ∙ sym (hello-settled q line hello) in
+      let third : byteIn (bytesOf line) 2 ≡ byteAt line 2 = bytes-at line 2 (omega (arith, taken .words, ap (λ s. s .words) (hello-shape q hello))) in
+      let settles = done .says ∙ taken-settles q line (length before) taken ∙ sym (hello-settled q (bytesOf line) hello) ∙ ap settledCount third in
       by-count (leb 1 (byteAt line 2) && leb (byteAt line 2) 32) settles
     where
       by-count : (t : Bool) → r ≡ cond t (Counted (byteAt line 2)) (Refused (Count (byteAt line 2))) → r ≡ Counted (byteAt line 2)

@@ -3,10 +3,11 @@ use mathlib.Core.Path.{_≡_, refl, sym, ap, _∙_}
 use mathlib.Core.Bool.{true, _&&_, _||_, not, true≢false}
 use mathlib.Core.Logic.{_⊎_, inl, inr, ⊎-elim}
 use Prim.Native.Nat.{ℕ, zero, suc, _+_, _*_, _≤_, _<_}
+use native.Mathlib.Nat.{eq-zero-or-pos}
 use native.Mathlib.Omega.{arith}
 use lib.Dec.{leb, ltb, eqb, lit<, lit≤}
 use borrow.Author.Tests.{leb-true, ltb-true, eqb-true, eq-eqb, not-true, le-leb, lt-ltb}
-use Rattle.ground.proofs.Test.{and-left, and-right, or-cases, or-left, or-right}
+use Rattle.ground.proofs.Test.{and-left, and-right, or-cases, or-left, or-right, below-or-not}
 use Rattle.questions.specs.Question.{goodChain, goodQuestion}
 use Rattle.questions.specs.Shape.{shapeAt, shapeOf}
 use Rattle.questions.specs.declared.question.Question.{Question}
@@ -118,3 +119,22 @@ module _ (q : Question) where
       at (suc (suc zero)) = omega arith
       at (suc (suc (suc zero))) = omega arith
       at (suc (suc (suc (suc k)))) = omega arith
+
+-- ---- how many words an answer has
+
+module _ (q : Question) (good : goodQuestion q ≡ true) where
+  pub words-most : shapeOf q .words ≤ 140
+  words-most =
+      let alive = good-alive q good in
+      ⊎-elim
+      (λ (low : q .kind < 3). ⊎-elim (λ e. omega (arith, ap (λ s. s .words) (hello-shape q e)))
+      (λ lo. omega (arith, write-shape q lo (omega arith) .words)) (eq-zero-or-pos (q .kind)))
+      (λ lo. omega (arith, read-shape q lo .words, good-values q good)) (below-or-not (q .kind) 3)
+
+  -- and none has fewer than 8
+  pub words-least : 8 ≤ shapeOf q .words
+  words-least =
+      ⊎-elim
+      (λ (low : q .kind < 3). ⊎-elim (λ e. omega (arith, ap (λ s. s .words) (hello-shape q e)))
+      (λ lo. omega (arith, write-shape q lo (omega arith) .words)) (eq-zero-or-pos (q .kind)))
+      (λ lo. omega (arith, read-shape q lo .words)) (below-or-not (q .kind) 3)

@@ -9,6 +9,7 @@ use types.Run.{OneOf, miss}
 use lib.ListN.{length, take, drop}
 use lib.Seq.{take-at}
 use Rattle.ground.proofs.Test.{refuted}
+use Rattle.questions.proofs.Good.{words-most}
 use Rattle.questions.specs.Question.{goodQuestion}
 use Rattle.questions.specs.Shape.{shapeOf}
 use Rattle.questions.specs.declared.question.Question.{Question}
@@ -17,7 +18,7 @@ use Rattle.commands.specs.declared.Issued.{Issued}
 use Rattle.commands.specs.declared.Issued.the-variants as issued
 use Rattle.commands.proofs.Issued as issued-command
 use Rattle.commands.proofs.Issuing.{issued-good, issued-words, command-written}
-use Rattle.acceptance.proofs.Lengths.{command-words, words-most}
+use Rattle.acceptance.proofs.Lengths.{command-words}
 use Rattle.registers.specs.Memory.{isChain}
 use Rattle.twin.specs.Step.{Standing, standing, hops, ChainDone}
 use Rattle.twin.specs.declared.step.Stepped.{Stepped}

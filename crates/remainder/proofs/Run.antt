@@ -1,6 +1,6 @@
 -- A list taken in from its place i on: the next number first, and nothing past the end. What a loop over a list goes by.
-use mathlib.Core.Path.{_≡_, refl, ap}
-use mathlib.Core.List.{List, [], _∷_, _++_}
+use mathlib.Core.Path.{_≡_, ap}
+use mathlib.Core.List.{List}
 use Prim.Native.Nat.{ℕ, _+_, _≤_, _<_}
 use native.Mathlib.Numerals.{add-one}
 use lib.ListN.{length, getD, drop, drop-of-length-le}
@@ -15,9 +15,3 @@ run-next step c l i h = rw (add-one, drop-cons l i 0 h)
 pub run-end : (step : ℕ → ℕ → ℕ) (c : ℕ) (l : List ℕ) (i : ℕ) → length l ≤ i → run step c (drop i l) ≡ c
 unfolding run
 run-end step c l i h = ap (run step c) (drop-of-length-le l h)
-
--- one list behind another
-pub run-append : (step : ℕ → ℕ → ℕ) (c : ℕ) (xs ys : List ℕ) → run step c (xs ++ ys) ≡ run step (run step c xs) ys
-unfolding run
-run-append step c [] ys = refl
-run-append step c (x ∷ xs) ys = run-append step (step c x) xs ys

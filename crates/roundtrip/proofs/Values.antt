@@ -13,8 +13,9 @@ use Rattle.ground.proofs.Sweep.{length-tabulated, tabulated-at}
 use Rattle.ground.proofs.Test.{below-or-not}
 use Rattle.remainder.specs.Turned.{Bytes}
 use Rattle.questions.specs.Bytes.{lowHigh, onWire}
+use Rattle.reader.specs.Read.{valueIn}
 use Rattle.acceptance.specs.Answer.{Registers}
-use Rattle.acceptance.proofs.Wire.{bytes-cons, valueIn, wire-read}
+use Rattle.acceptance.proofs.Wire.{bytes-cons, wire-read}
 use Rattle.roundtrip.specs.Between.{held}
 
 pub tabulated-registers : (f : ℕ → ℕ) (n : ℕ) → ((k : ℕ) → f k < 65536) → Registers (tabulated f n 0)
@@ -51,11 +52,11 @@ module _ (wire : List ℕ) (small : Bytes wire) (m : ℕ) (size : length wire �
   wide = omega arith
 
   pub valuesOf : List ℕ
-  valuesOf = tabulated (valueIn (0 ∷ 0 ∷ wire) framed-small m wide) m (m - m)
+  valuesOf = tabulated (valueIn (0 ∷ 0 ∷ wire) m) m (m - m)
 
   pub values-number : length valuesOf ≡ m
   unfolding valuesOf
-  values-number = length-tabulated (valueIn (0 ∷ 0 ∷ wire) framed-small m wide) m (m - m)
+  values-number = length-tabulated (valueIn (0 ∷ 0 ∷ wire) m) m (m - m)
 
   pub values-wire : wire ≡ onWire valuesOf
   unfolding valuesOf
@@ -65,6 +66,6 @@ module _ (wire : List ℕ) (small : Bytes wire) (m : ℕ) (size : length wire �
   unfolding valuesOf
   values-registers =
       let none : m - m ≡ 0 = omega arith in
-      let value = valueIn (0 ∷ 0 ∷ wire) framed-small m wide in
+      let value = valueIn (0 ∷ 0 ∷ wire) m in
       subst (λ (i : ℕ). Registers (tabulated value m i)) (sym none)
       (tabulated-registers value m (λ k. let low = framed-small (2 + 2 * (m - 1 - k)) in let high = framed-small (2 + 2 * (m - 1 - k) + 1) in omega arith))

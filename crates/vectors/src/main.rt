@@ -8,7 +8,7 @@ mod wire;
 ghost use mathlib.Core.Path.{_≡_};
 ghost use lib.ListN.{length};
 use lines::read::byte_at;
-use lines::read::pec_over;
+use lines::read::read_bytes;
 use scanning::first_no_character;
 use scanning::first_no_nibble;
 use scanning::is_framed;
@@ -57,10 +57,14 @@ fn two_bytes(words: &[u16]) {
 }
 
 fn two_pecs(words: &[u16]) {
+    let mut three: [u8; 3] = [0; 3];
+    read_bytes(words, 0, &mut three);
     text(b", PEC of bytes 0 to 2 ");
-    byte(pec_over(words, 0, 3));
+    byte(pec::pec(&three));
+    let mut five: [u8; 5] = [0; 5];
+    read_bytes(words, 0, &mut five);
     text(b", of bytes 0 to 4 ");
-    byte(pec_over(words, 0, 5));
+    byte(pec::pec(&five));
     text(b"\n");
 }
 

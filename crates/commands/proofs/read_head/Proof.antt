@@ -2,26 +2,32 @@
 use mathlib.Core.Path.{ap}
 use mathlib.Core.List.{[], _∷_}
 use Prim.Native.Nat.{ℕ, _+_}
+use Rattle.pec.proofs.Byte.{three-steps}
 use borrow.Author.Needs.{needs}
 use Rattle.commands.proofs.read_head.Statement.{statement}
 use Rattle.commands.proofs.read_head.Tie as tie
 
-slice-aggregate-pec : tie.Need-slice-aggregate-pec
-slice-aggregate-pec c = search needs
+step-requires : tie.Need-step-requires
+step-requires c κs = search needs
 
-pec-requires : tie.Need-pec-requires
-pec-requires c κs = search needs
+step-requires-2 : tie.Need-step-requires-2
+step-requires-2 c κs = search needs
 
-cast-t10 : tie.Need-cast-t10
-cast-t10 c = search needs
+step-requires-3 : tie.Need-step-requires-3
+step-requires-3 c κs = search needs
 
-add-t11 : tie.Need-add-t11
-add-t11 c = search needs
+cast-t9 : tie.Need-cast-t9
+cast-t9 c = search needs
+
+add-t10 : tie.Need-add-t10
+add-t10 c = search needs
 
 returns : tie.Need-returns
 returns c =
-    let a = c .before .before .before .args in
-    ap (λ (check : ℕ). record { bytes = a .first ∷ a .q .reg ∷ 0 ∷ check ∷ a .q .seed ∷ 0 ∷ []; count = 4 + a .q .alive }) (c .before .pec .ensures)
+    let a = c .before .before .before .before .args in
+    ap (λ (check : ℕ). record { bytes = a .first ∷ a .q .reg ∷ 0 ∷ check ∷ a .q .seed ∷ 0 ∷ []; count = 4 + a .q .alive })
+    (three-steps (a .first) (a .q .reg) 0 (c .before .before .before .step .ensures) (c .before .before .step2 .ensures) (c .before .step3 .ensures))
 
 pub read-head-spec : {M : Type 1} → statement M
-read-head-spec = tie.close (tie.spec slice-aggregate-pec pec-requires cast-t10 add-t11 returns)
+read-head-spec =
+    tie.close (tie.spec step-requires step-requires-2 step-requires-3 cast-t9 add-t10 returns)

@@ -47,7 +47,7 @@ returns-4 : tie.Need-returns-4
 unfolding judgeBytes
 returns-4 c =
     let q = c .before .before .before .before .before .before .before .before .before .before .args .q in
-    let line = c .before .before .before .before .before .before .before .before .before .before .args .line .now in
+    let line = c .before .before .before .before .before .before .before .before .before .before .args .bytes .now in
     let check = c .before .check-byte in
     ap (λ b. Refused (Check b)) (check .ensures)
     ∙ sym (goes-on _ _ _ (sym (c .before .before .before .before .before .before .before .echoes .ensures) ∙ not-false (c .before .before .before .before .before .before .before .echoes .result) (c .before .before .before .before .before .before .if1 .left))
@@ -62,7 +62,7 @@ returns-5 : tie.Need-returns-5
 unfolding judgeBytes
 returns-5 c =
     let q = c .before .before .before .before .before .before .before .before .before .before .before .args .q in
-    let line = c .before .before .before .before .before .before .before .before .before .before .before .args .line .now in
+    let line = c .before .before .before .before .before .before .before .before .before .before .before .args .bytes .now in
     c .settle .ensures
     ∙ sym (goes-on _ _ _ (sym (c .before .before .before .before .before .before .before .before .echoes .ensures) ∙ not-false (c .before .before .before .before .before .before .before .before .echoes .result) (c .before .before .before .before .before .before .before .if1 .left))
     ∙ goes-on _ _ _ (sym (c .before .before .before .before .before .before .pec-is-right .ensures) ∙ not-false (c .before .before .before .before .before .before .pec-is-right .result) (c .before .before .before .before .before .if2 .left))

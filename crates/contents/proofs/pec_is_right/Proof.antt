@@ -2,8 +2,10 @@
 use mathlib.Core.Path.{ap, ap₂, _∙_}
 use Prim.Native.Nat.{ℕ}
 use lib.Dec.{eqb}
-use Rattle.lines.specs.Line.{byteAt, pecOver}
+use lib.ListN.{take}
+use Rattle.pec.specs.Pec.{pecOf}
 use Rattle.contents.proofs.RowLaws.{positive, hello-pec, other-pec}
+use Rattle.contents.specs.Rows.{byteIn}
 use borrow.Author.Needs.{needs}
 use Rattle.contents.proofs.pec_is_right.Statement.{statement}
 use Rattle.contents.proofs.pec_is_right.Tie as tie
@@ -11,22 +13,22 @@ use Rattle.contents.proofs.pec_is_right.Tie as tie
 returns : tie.Need-returns
 returns c =
     let a = c .before .before .before .args in
-    hello-pec (a .q) (a .line .now) (c .if1 .taken)
+    hello-pec (a .q) (a .bytes .now) (c .if1 .taken)
 
-byte-at-requires : tie.Need-byte-at-requires
-byte-at-requires c κs = search needs
+byte-in-requires : tie.Need-byte-in-requires
+byte-in-requires c κs = search needs
 
-pec-over-requires : tie.Need-pec-over-requires
-pec-over-requires c κs = search needs
+pec-before-requires : tie.Need-pec-before-requires
+pec-before-requires c κs = search needs
 
 returns-2 : tie.Need-returns-2
 returns-2 c =
     let a = c .before .before .before .before .before .args in
-    let l = a .line .now in
-    ap₂ eqb (c .before .byte-at .ensures) (c .pec-over .ensures)
-    ∙ ap (λ (k : ℕ). eqb (byteAt l k) (pecOver l 0 k)) (c .before .before .before .before .before .pre)
+    let l = a .bytes .now in
+    ap₂ eqb (c .before .byte-in .ensures) (c .pec-before .ensures)
+    ∙ ap (λ (k : ℕ). eqb (byteIn l k) (pecOf (take k l))) (c .before .before .before .before .before .pre)
     ∙ other-pec (a .q) l (positive (a .q .kind) (c .before .before .if1 .left))
 
 pub pec-is-right-spec : {M : Type 1} → statement M
 pec-is-right-spec =
-    tie.close (tie.spec returns byte-at-requires pec-over-requires returns-2)
+    tie.close (tie.spec returns byte-in-requires pec-before-requires returns-2)

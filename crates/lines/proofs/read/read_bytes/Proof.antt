@@ -1,12 +1,13 @@
 -- `read_bytes` meets its contract: the loop keeps the places passed at the line's bytes, and all else as it was.
-use mathlib.Core.Path.{_≡_, refl, sym, ap, ap₂, _∙_}
-use mathlib.Core.List.{List}
-use Prim.Native.Nat.{ℕ, _+_, _-_, _≤_, min}
+use mathlib.Core.Path.{_≡_, refl, sym, ap, _∙_, subst⁻¹}
+use Prim.Native.Nat.{ℕ, _+_, _-_, _*_, _≤_, min}
+use native.Mathlib.Nat.{add-sub-cancel-left}
 use native.Mathlib.Omega.{arith}
-use lib.ListN.{length, set, length-set}
-use lib.Seq.{sets}
-use Rattle.ground.proofs.Lists.{filled-next}
-use Rattle.lines.specs.Line.{byteAt, byteCount, bytesFrom}
+use mir.Facts.{fits-le}
+use lib.ListN.{length}
+use lib.Seq.{sets, length-sets}
+use Rattle.lines.specs.Line.{byteCount, bytesFrom}
+use Rattle.lines.proofs.Nibbles.{within, place-fits, put}
 use Rattle.lines.proofs.read.read_bytes.Statement.{statement}
 use Rattle.lines.proofs.read.read_bytes.Tie as tie
 
@@ -37,30 +38,91 @@ loop-holds c =
     let a = c .before .before .before .before .before .args in
     (c .least .ensures ∙ ap (λ (n : ℕ). min (length (a .out .now)) (n - a .from)) (c .before .before .byte-count .ensures), omega arith, refl, refl)
 
-add-byte-in : tie.Need-add-byte-in Inv-loop μ-loop
-add-byte-in c = omega (arith, c .before .loop .inv .0, c .loop-test .taken)
+sub-least-2 : tie.Need-sub-least-2 Inv-loop μ-loop
+sub-least-2 c = omega arith
 
-byte-in-requires : tie.Need-byte-in-requires Inv-loop μ-loop
-byte-in-requires c κs = omega (arith, c .before .loop .inv .0, c .loop-test .taken)
+least-requires-2 : tie.Need-least-requires-2 Inv-loop μ-loop
+least-requires-2 c κs = tt
 
-slice-write-out : tie.Need-slice-write-out Inv-loop μ-loop
-slice-write-out c = omega (arith, c .before .before .loop .inv .0, c .before .loop-test .taken, c .before .before .loop .inv .3)
+part-read-part-end : tie.Need-part-read-part-end Inv-loop μ-loop
+part-read-part-end c =
+    let a = c .before .before .before .before .before .before .before .before .args in
+    let at = c .before .before .loop in
+    within (length (a .out .now)) (length (a .line .now)) (a .from) (c .before .before .before .least .result) (at .k) (c .least2 .result) (at .inv .0) (c .before .loop-test .taken) (c .least2 .ensures) .3
+
+mul-read-part-2 : tie.Need-mul-read-part-2 Inv-loop μ-loop
+mul-read-part-2 c =
+    let a = c .before .before .before .before .before .before .before .before in
+    place-fits (length (a .args .line .now)) (1 + 2 * (a .args .from + c .before .before .loop .k)) (2 * c .least2 .result) (a .good .0 .1) (part-read-part-end c)
+
+add-read-part : tie.Need-add-read-part Inv-loop μ-loop
+add-read-part c = fits-le (part-read-part-end c) (record { fits = c .before .before .before .before .before .before .before .before .good .0 .0 })
+
+add-start : tie.Need-add-start Inv-loop μ-loop
+add-start c = fits-le (omega arith) (add-read-part c)
+
+mul-start : tie.Need-mul-start Inv-loop μ-loop
+mul-start c = fits-le (omega arith) (add-read-part c)
+
+add-start-2 : tie.Need-add-start-2 Inv-loop μ-loop
+add-start-2 c = fits-le (omega arith) (add-read-part c)
+
+mul-read-part : tie.Need-mul-read-part Inv-loop μ-loop
+mul-read-part c = fits-le (omega arith) (add-read-part c)
+
+sub-read-part : tie.Need-sub-read-part Inv-loop μ-loop
+sub-read-part c = omega arith
+
+part-read-part-start : tie.Need-part-read-part-start Inv-loop μ-loop
+part-read-part-start c = omega arith
+
+add-read-part-2 : tie.Need-add-read-part-2 Inv-loop μ-loop
+add-read-part-2 c = fits-le (omega arith) (add-read-part (c .before))
+
+sub-read-part-2 : tie.Need-sub-read-part-2 Inv-loop μ-loop
+sub-read-part-2 c = omega arith
+
+part-read-part-start-2 : tie.Need-part-read-part-start-2 Inv-loop μ-loop
+part-read-part-start-2 c = omega arith
+
+part-read-part-end-2 : tie.Need-part-read-part-end-2 Inv-loop μ-loop
+part-read-part-end-2 c =
+    let a = c .before .before .before .before .before .before .before .before .before .args in
+    let at = c .before .before .before .loop in
+    let part = c .before .least2 in
+    subst⁻¹ (λ (n : ℕ). at .k + part .result ≤ n) (at .inv .3)
+    (within (length (a .out .now)) (length (a .line .now)) (a .from) (c .before .before .before .before .least .result) (at .k) (part .result) (at .inv .0) (c .before .before .loop-test .taken) (part .ensures) .2)
+
+read-part-requires : tie.Need-read-part-requires Inv-loop μ-loop
+read-part-requires c κs =
+    (omega (arith, c .before .read-part-arg .given .2, c .read-part-arg2 .given .2), omega (arith, c .read-part-arg2 .given .2, c .before .before .least2 .ensures))
 
 add-k : tie.Need-add-k Inv-loop μ-loop
-add-k c = omega (arith, c .before .before .loop .inv .0, c .before .loop-test .taken)
+add-k c = add-read-part-2 (c .before .before .before .before)
 
 loop-less : tie.Need-loop-less Inv-loop μ-loop
-loop-less c = omega (arith, c .before .loop-test .taken)
+loop-less c =
+    let a = c .before .before .before .before .before .before .before .before .before .before .before .before .before .args in
+    let at = c .before .before .before .before .before .before .before .loop in
+    let many = c .before .before .before .before .before .before .before .before .least .result in
+    let part = c .before .before .before .before .before .least2 in
+    within (length (a .out .now)) (length (a .line .now)) (a .from) many (at .k) (part .result) (at .inv .0) (c .before .before .before .before .before .before .loop-test .taken) (part .ensures) .0
 
 loop-again : tie.Need-loop-again Inv-loop μ-loop
 loop-again c =
-    let a = c .before .before .before .before .before .before .before .before .args in
-    let at = c .before .before .loop in (
+    let a = c .before .before .before .before .before .before .before .before .before .before .before .before .before .args in
+    let at = c .before .before .before .before .before .before .before .loop in
+    let many = c .before .before .before .before .before .before .before .before .least .result in
+    let part = c .before .before .before .before .before .least2 in
+    let end : at .k + part .result ≤ length (at .out) = part-read-part-end-2 (c .before .before .before .before) in
+    let start = 1 + 2 * (a .from + at .k) in
+    let stored = put (a .line .now) (a .out .now) (at .out) (c .before .before .read-part .last .1 .0) (a .from) (at .k) (part .result)
+    (start + 2 * part .result - start) (at .k + part .result - at .k) (at .inv .2) end (add-sub-cancel-left start (2 * part .result))
+    (add-sub-cancel-left (at .k) (part .result)) (c .before .before .before .read-part-arg2 .given .2) (c .before .before .read-part .ensures) in (
       at .inv .0,
-      omega (arith, c .before .loop-test .taken),
-      ap₂ (λ (l : List ℕ) (b : ℕ). set l (at .k) b) (at .inv .2) (c .byte-in .ensures)
-          ∙ filled-next (λ (k : ℕ). byteAt (a .line .now) (a .from + k)) (a .out .now) (at .k),
-      length-set (at .out) (at .k) (c .byte-in .result) ∙ at .inv .3,
+      within (length (a .out .now)) (length (a .line .now)) (a .from) many (at .k) (part .result) (at .inv .0) (c .before .before .before .before .before .before .loop-test .taken) (part .ensures) .1,
+      stored,
+      ap length stored ∙ length-sets (a .out .now) 0 (bytesFrom (a .line .now) (a .from) (at .k + part .result)),
     )
 
 same-length : tie.Need-same-length Inv-loop μ-loop
@@ -84,9 +146,22 @@ read-bytes-spec =
     sub-least
     least-requires
     loop-holds
-    add-byte-in
-    byte-in-requires
-    slice-write-out
+    sub-least-2
+    least-requires-2
+    add-start
+    mul-start
+    add-start-2
+    mul-read-part
+    add-read-part
+    mul-read-part-2
+    sub-read-part
+    part-read-part-start
+    part-read-part-end
+    add-read-part-2
+    sub-read-part-2
+    part-read-part-start-2
+    part-read-part-end-2
+    read-part-requires
     add-k
     loop-less
     loop-again
