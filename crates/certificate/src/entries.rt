@@ -24,7 +24,7 @@ ghost use Rattle.certificate.specs.Certificate.{heardAs};
 ghost use Rattle.certificate.specs.Telling.{heardNow, ToldOne, ToldAll};
 
 // Every entry told, in order.
-pub fn tell(header: Header, file: &[u8], numbers: &mut [u8]) -> Told
+pub(crate) fn tell(header: Header, file: &[u8], numbers: &mut [u8]) -> Told
     requires { ⌜ (goodFile (now file) ≡ true) × (header ≡ headerIn (now file)) × (length (now numbers) ≡ 8191) ⌝ }
     ensures { λ r. ⌜ ToldAll (now (file .entry)) (now (numbers .exit)) r ⌝ }
 {

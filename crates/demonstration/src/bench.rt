@@ -15,7 +15,7 @@ ghost use mathlib.Core.Path.{_≡_};
 ghost use lib.ListN.{length};
 
 // Register 12h of three devices; the alive byte is on and starts at FEh, so that it wraps on the way.
-pub fn ask(kind: u8, device: u8, value: u16) -> Question {
+pub(crate) fn ask(kind: u8, device: u8, value: u16) -> Question {
     Question {
         kind,
         n: 3,
@@ -27,7 +27,7 @@ pub fn ask(kind: u8, device: u8, value: u16) -> Question {
     }
 }
 
-pub fn registers() -> [u16; 768]
+pub(crate) fn registers() -> [u16; 768]
     ensures { λ r. ⌜ 768 ≡ length r ⌝ }
 {
     [0; 768]
@@ -107,7 +107,7 @@ fn send(q: Question, noise: u16, line: &mut [u16], memory: &mut [u16]) {
     through_the_chain(q, line, memory);
 }
 
-pub fn bench(title: &[u8], q: Question, noise: u16, memory: &mut [u16]) {
+pub(crate) fn bench(title: &[u8], q: Question, noise: u16, memory: &mut [u16]) {
     text(b"\n");
     text(title);
     let mut line = line_of_words();

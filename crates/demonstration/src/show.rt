@@ -1,11 +1,11 @@
 // What the demonstration prints.
 use lines::read::byte_at;
 
-pub fn text(s: &[u8]) {
+pub(crate) fn text(s: &[u8]) {
     io::write_all(libc::STDOUT_FILENO, s);
 }
 
-pub fn number(n: usize) {
+pub(crate) fn number(n: usize) {
     io::print_decimal(libc::STDOUT_FILENO, n as u64);
 }
 
@@ -15,7 +15,7 @@ fn hex(n: u16, digits: usize) {
 }
 
 // The bytes between preamble and stop.
-pub fn bytes_on(line: &[u16]) {
+pub(crate) fn bytes_on(line: &[u16]) {
     let mut i = 1;
     while i < line.len() / 2 {
         hex(byte_at(line, i - 1) as u16, 2);
@@ -24,7 +24,7 @@ pub fn bytes_on(line: &[u16]) {
     text(b"\n");
 }
 
-pub fn values(words: &[u16]) {
+pub(crate) fn values(words: &[u16]) {
     let mut k = 0;
     while k < words.len() {
         hex(words[k], 4);

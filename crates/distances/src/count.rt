@@ -24,7 +24,7 @@ fn singles(table: &[u8], from: usize, wanted: u8) -> u64
 }
 
 // The pairs of bits from a place on.
-pub fn pairs(table: &[u8], from: usize, wanted: u8) -> u64
+pub(crate) fn pairs(table: &[u8], from: usize, wanted: u8) -> u64
     requires { ⌜ from ≤ length (now table) ⌝ }
     requires { ⌜ length (now table) ≤ 520 ⌝ }
     ensures { λ r. ⌜ r ≤ 520 * length (now (table .entry)) ⌝ }
@@ -39,7 +39,7 @@ pub fn pairs(table: &[u8], from: usize, wanted: u8) -> u64
 }
 
 // The triples of bits whose syndromes xor to 0.
-pub fn triples(table: &[u8]) -> u64
+pub(crate) fn triples(table: &[u8]) -> u64
     requires { ⌜ length (now table) ≤ 520 ⌝ }
 {
     let mut count: u64 = 0;

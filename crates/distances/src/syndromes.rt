@@ -34,7 +34,7 @@ fn blank() -> [u8; 520]
 }
 
 // The syndromes for 32 devices: 8 bits of the PEC and 512 of the values, from the end. Fewer devices have the first of them.
-pub fn syndromes() -> [u8; 520]
+pub(crate) fn syndromes() -> [u8; 520]
     ensures { λ r. ⌜ 520 ≡ length r ⌝ }
 {
     let mut table = blank();

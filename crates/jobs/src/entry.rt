@@ -13,7 +13,7 @@ ghost use Prim.Native.Nat.{_≤_};
 ghost use lib.ListN.{length, drop};
 ghost use Rattle.jobs.specs.Check.{wordsIn, askedIn, goodEntry, goodEntries, placedIn};
 
-pub fn are_good_entries(header: Header, file: &[u8]) -> bool
+pub(crate) fn are_good_entries(header: Header, file: &[u8]) -> bool
     requires { ⌜ 7 ≤ length (now file) ⌝ }
     ensures { λ r. ⌜ r ≡ goodEntries header (drop 7 (now (file .entry))) ⌝ }
 {
@@ -28,7 +28,7 @@ pub fn are_good_entries(header: Header, file: &[u8]) -> bool
 }
 
 // Whether an entry stands at the front of some bytes: not cut short, and keeping the rules.
-pub fn is_good_entry(header: Header, front: &[u8]) -> bool
+pub(crate) fn is_good_entry(header: Header, front: &[u8]) -> bool
     ensures { λ r. ⌜ r ≡ goodEntry header (now (front .entry)) ⌝ }
 {
     if front.len() < 8 {
@@ -49,7 +49,7 @@ pub fn is_good_entry(header: Header, front: &[u8]) -> bool
 }
 
 // An entry that is known to stand at a place.
-pub fn entry_known_at(header: Header, file: &[u8], at: usize) -> Next
+pub(crate) fn entry_known_at(header: Header, file: &[u8], at: usize) -> Next
     requires { ⌜ (at ≤ length (now file)) × (goodEntry header (drop at (now file)) ≡ true) ⌝ }
     ensures { λ r. ⌜ r ≡ placedIn header at (drop at (now (file .entry))) ⌝ }
 {

@@ -10,7 +10,7 @@ ghost use mathlib.Core.Bool.{_||_};
 ghost use lib.Dec.{eqb};
 ghost use Rattle.jobs.specs.Rules.{usesOf, unusedAreZero};
 
-pub fn are_unused_zero(q: Question) -> bool
+pub(crate) fn are_unused_zero(q: Question) -> bool
     ensures { λ r. ⌜ r ≡ unusedAreZero q ⌝ }
 {
     let uses = uses_of(q);

@@ -8,7 +8,7 @@ ghost use Rattle.jobs.specs.Rules.{goodHeader};
 ghost use Rattle.jobs.specs.Check.{marked};
 
 // The mark BMC, and version 1.
-pub fn is_marked(file: &[u8]) -> bool
+pub(crate) fn is_marked(file: &[u8]) -> bool
     requires { ⌜ 7 ≤ length (now file) ⌝ }
     ensures { λ r. ⌜ r ≡ marked (now (file .entry)) ⌝ }
 {
@@ -24,7 +24,7 @@ pub fn is_marked(file: &[u8]) -> bool
     join(file[3], file[4]) == 1
 }
 
-pub fn is_good_header(header: Header) -> bool
+pub(crate) fn is_good_header(header: Header) -> bool
     ensures { λ r. ⌜ r ≡ goodHeader header ⌝ }
 {
     if header.n < 1 {

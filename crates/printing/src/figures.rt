@@ -6,7 +6,7 @@ ghost use Rattle.printing.specs.Text.{decimal, figure};
 ghost use Rattle.printing.specs.Print.{StoredAt};
 
 // Beyond the end nothing is written, and the byte is counted all the same.
-pub fn put(text: &mut [u8], at: usize, byte: u8) -> usize
+pub(crate) fn put(text: &mut [u8], at: usize, byte: u8) -> usize
     requires { ⌜ at ≤ 600000 ⌝ }
     ensures { λ r. ⌜ StoredAt (now (text .entry)) at (byte ∷ []) (now (text .exit)) r ⌝ }
 {
@@ -17,7 +17,7 @@ pub fn put(text: &mut [u8], at: usize, byte: u8) -> usize
     at + 1
 }
 
-pub fn put_all(text: &mut [u8], at: usize, bytes: &[u8]) -> usize
+pub(crate) fn put_all(text: &mut [u8], at: usize, bytes: &[u8]) -> usize
     requires { ⌜ (at ≤ 500000) × (length (now bytes) ≤ 100) ⌝ }
     ensures { λ r. ⌜ StoredAt (now (text .entry)) at (now (bytes .entry)) (now (text .exit)) r ⌝ }
 {
@@ -31,7 +31,7 @@ pub fn put_all(text: &mut [u8], at: usize, bytes: &[u8]) -> usize
 }
 
 // A number of at most five figures, without zeros in front.
-pub fn put_number(text: &mut [u8], at: usize, v: usize) -> usize
+pub(crate) fn put_number(text: &mut [u8], at: usize, v: usize) -> usize
     requires { ⌜ at ≤ 400000 ⌝ }
     ensures { λ r. ⌜ StoredAt (now (text .entry)) at (decimal v) (now (text .exit)) r ⌝ }
 {

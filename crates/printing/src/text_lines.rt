@@ -11,7 +11,7 @@ ghost use lib.ListN.{length};
 ghost use Rattle.printing.specs.Text.{headLine, entryLine, entryLines, deviceLine, deviceLineIf, deviceLines};
 ghost use Rattle.printing.specs.Print.{StoredAt, mostEntries};
 
-pub fn put_head(text: &mut [u8], n: u8) -> usize
+pub(crate) fn put_head(text: &mut [u8], n: u8) -> usize
     ensures { λ r. ⌜ StoredAt (now (text .entry)) 0 (headLine n) (now (text .exit)) r ⌝ }
 {
     let mark = put_all(text, 0, b"BMC 1 ");
@@ -19,7 +19,7 @@ pub fn put_head(text: &mut [u8], n: u8) -> usize
     put(text, end, 0x0A)
 }
 
-pub fn put_entries(text: &mut [u8], at: usize, numbers: &[u8]) -> usize
+pub(crate) fn put_entries(text: &mut [u8], at: usize, numbers: &[u8]) -> usize
     requires { ⌜ (at ≤ 100) × (length (now numbers) ≤ mostEntries) ⌝ }
     ensures { λ r. ⌜ StoredAt (now (text .entry)) at (entryLines (now (numbers .entry))) (now (text .exit)) r ⌝ }
 {
@@ -43,7 +43,7 @@ fn put_entry(text: &mut [u8], at: usize, i: usize, r: u8) -> usize
     put(text, end, 0x0A)
 }
 
-pub fn put_devices(text: &mut [u8], at: usize, standing: Standing) -> usize
+pub(crate) fn put_devices(text: &mut [u8], at: usize, standing: Standing) -> usize
     requires { ⌜ at ≤ 200000 ⌝ }
     ensures { λ r. ⌜ StoredAt (now (text .entry)) at (deviceLines standing) (now (text .exit)) r ⌝ }
 {

@@ -15,7 +15,7 @@ ghost use Rattle.rehearsal.specs.Rehearsal.{rehearsalOf, rehearsed};
 ghost use Rattle.rehearsal.specs.Answering.{Ready};
 
 // The whole file anew.
-pub fn answer_all(header: Header, file: &[u8], out: &mut [u8])
+pub(crate) fn answer_all(header: Header, file: &[u8], out: &mut [u8])
     requires { ⌜ (goodFile (now file) ≡ true) × (header ≡ headerIn (now file)) × (length (rehearsalOf (now file)) ≤ 65536) ⌝ }
     ensures { λ _. ⌜ now (out .exit) ≡ sets (now (out .entry)) 0 (rehearsalOf (now (file .entry))) ⌝ }
 {

@@ -15,7 +15,7 @@ ghost use Rattle.jobs.specs.Check.{goodEntries, goodFile, headerIn};
 ghost use Rattle.rehearsal.specs.Rehearsal.{answerWords, rehearsalOf};
 ghost use Rattle.rehearsal.specs.Answering.{entryWith};
 
-pub fn answered_length(header: Header, file: &[u8]) -> usize
+pub(crate) fn answered_length(header: Header, file: &[u8]) -> usize
     requires { ⌜ (goodFile (now file) ≡ true) × (header ≡ headerIn (now file)) ⌝ }
     ensures { λ r. ⌜ r ≡ length (rehearsalOf (now (file .entry))) ⌝ }
 {

@@ -21,7 +21,7 @@ ghost use Rattle.jobs.specs.Check.{goodEntries};
 ghost use Rattle.rehearsal.specs.Answering.{SentDone, fieldBytes, AnsweredOne};
 
 // One entry more, with its answer.
-pub fn answer_entry(
+pub(crate) fn answer_entry(
     header: Header,
     file: &[u8],
     memory: &mut [u16],

@@ -21,7 +21,7 @@ fn is_byte(line: &[u16], i: usize, byte: u8) -> bool
 }
 
 // Whether a line is the line of some bytes.
-pub fn is_line_of(line: &[u16], bytes: &[u8]) -> bool
+pub(crate) fn is_line_of(line: &[u16], bytes: &[u8]) -> bool
     ensures { λ r. ⌜ r ≡ same (now (line .entry)) (lineOf (now (bytes .entry))) ⌝ }
 {
     if line.len() < 2 {

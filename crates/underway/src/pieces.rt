@@ -9,7 +9,7 @@ ghost use Rattle.lines.specs.Line.{byteAt};
 ghost use Rattle.questions.specs.Bytes.{lowHigh, fillPairs};
 ghost use Rattle.underway.specs.Lay.{Laid};
 
-pub fn push(bytes: &mut [u8], at: usize, byte: u8) -> usize
+pub(crate) fn push(bytes: &mut [u8], at: usize, byte: u8) -> usize
     requires { ⌜ at < length (now bytes) ⌝ }
     ensures { λ r. ⌜ Laid (now (bytes .entry)) at (byte ∷ []) (now (bytes .exit)) r ⌝ }
 {
@@ -18,7 +18,7 @@ pub fn push(bytes: &mut [u8], at: usize, byte: u8) -> usize
 }
 
 // A register's value: low byte, high byte.
-pub fn push_value(bytes: &mut [u8], at: usize, value: u16) -> usize
+pub(crate) fn push_value(bytes: &mut [u8], at: usize, value: u16) -> usize
     requires { ⌜ at + 2 ≤ length (now bytes) ⌝ }
     ensures { λ r. ⌜ Laid (now (bytes .entry)) at (lowHigh value) (now (bytes .exit)) r ⌝ }
 {
@@ -27,7 +27,7 @@ pub fn push_value(bytes: &mut [u8], at: usize, value: u16) -> usize
 }
 
 // The value bytes of a line that carries some: directly after the register byte.
-pub fn push_carried(bytes: &mut [u8], at: usize, line: &[u16], count: usize) -> usize
+pub(crate) fn push_carried(bytes: &mut [u8], at: usize, line: &[u16], count: usize) -> usize
     requires { ⌜ at + count ≤ length (now bytes) ⌝ }
     ensures { λ r. ⌜ Laid (now (bytes .entry)) at (tabulated (byteAt (now (line .entry))) count 2) (now (bytes .exit)) r ⌝ }
 {
@@ -40,7 +40,7 @@ pub fn push_carried(bytes: &mut [u8], at: usize, line: &[u16], count: usize) -> 
     end
 }
 
-pub fn push_all(bytes: &mut [u8], at: usize, more: &[u8]) -> usize
+pub(crate) fn push_all(bytes: &mut [u8], at: usize, more: &[u8]) -> usize
     requires { ⌜ at + length (now more) ≤ length (now bytes) ⌝ }
     ensures { λ r. ⌜ Laid (now (bytes .entry)) at (now (more .entry)) (now (bytes .exit)) r ⌝ }
 {
@@ -61,7 +61,7 @@ fn push_pair(bytes: &mut [u8], at: usize) -> usize
     push(bytes, middle, 0xD3)
 }
 
-pub fn push_pairs(bytes: &mut [u8], at: usize, pairs: usize) -> usize
+pub(crate) fn push_pairs(bytes: &mut [u8], at: usize, pairs: usize) -> usize
     requires { ⌜ at + 2 * pairs ≤ length (now bytes) ⌝ }
     ensures { λ r. ⌜ Laid (now (bytes .entry)) at (fillPairs pairs) (now (bytes .exit)) r ⌝ }
 {

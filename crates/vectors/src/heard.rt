@@ -26,7 +26,7 @@ fn room() -> [u16; 32]
 }
 
 // What the reader says of a line: the number with its place and byte, and what it took.
-pub fn answer(q: Question, line: &[u16]) {
+pub(crate) fn answer(q: Question, line: &[u16]) {
     text(b"answer to ");
     show_question(q);
     let mut out = room();
@@ -86,7 +86,7 @@ fn seven_bytes(q: Question, bytes: &[u8]) {
 }
 
 // Seed FFh and one device give 00h; HELLOALL's reading is the count on the line.
-pub fn answers() {
+pub(crate) fn answers() {
     six_bytes(ask(READALL, 1, 0, 0), b"\x03\x12\x00\x00\x00\xBC");
     seven_bytes(ask(READALL, 1, 1, 0xFF), b"\x03\x12\x00\x00\x00\xBC\x00");
     seven_bytes(ask(READALL, 1, 1, 0xFF), b"\x03\x12\x00\x00\x00\xBC\xFF");

@@ -26,7 +26,7 @@ fn longer_line() -> [u16; 141]
 }
 
 // 32 devices with seed F0h: the alive byte comes back as 10h. 140 words are good, 141 are LENGTH.
-pub fn longest() {
+pub(crate) fn longest() {
     let q = ask(READALL, 32, 1, 0xF0);
     let mut bytes = longest_bytes();
     bytes[0] = 0x03;
@@ -53,7 +53,7 @@ fn fifteen_line() -> [u16; 70]
 }
 
 // At 15 devices, bit 0 of the first value byte and bit 7 of the PEC turned over give another acceptable answer.
-pub fn fifteen() {
+pub(crate) fn fifteen() {
     let q = ask(READALL, 15, 0, 0);
     let mut bytes = fifteen_bytes();
     bytes[0] = 0x03;

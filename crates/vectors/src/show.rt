@@ -2,23 +2,23 @@
 use lines::read::byte_at;
 use scanning::Place;
 
-pub fn text(s: &[u8]) {
+pub(crate) fn text(s: &[u8]) {
     io::write_all(libc::STDOUT_FILENO, s);
 }
 
-pub fn byte(b: u8) {
+pub(crate) fn byte(b: u8) {
     io::print_hex(libc::STDOUT_FILENO, b as u64, 2);
 }
 
-pub fn word(w: u16) {
+pub(crate) fn word(w: u16) {
     io::print_hex(libc::STDOUT_FILENO, w as u64, 3);
 }
 
-pub fn number(n: usize) {
+pub(crate) fn number(n: usize) {
     io::print_decimal(libc::STDOUT_FILENO, n as u64);
 }
 
-pub fn yes_or_no(yes: bool) {
+pub(crate) fn yes_or_no(yes: bool) {
     if yes {
         text(b"yes");
     } else {
@@ -26,7 +26,7 @@ pub fn yes_or_no(yes: bool) {
     }
 }
 
-pub fn place(p: Place) {
+pub(crate) fn place(p: Place) {
     match p {
         Place::At(i) => {
             number(i);
@@ -47,7 +47,7 @@ fn next_word(w: u16) {
     word(w);
 }
 
-pub fn bytes_of(bytes: &[u8]) {
+pub(crate) fn bytes_of(bytes: &[u8]) {
     let mut i = 0;
     while i < bytes.len() {
         next_byte(bytes[i]);
@@ -55,7 +55,7 @@ pub fn bytes_of(bytes: &[u8]) {
     }
 }
 
-pub fn words_of(words: &[u16]) {
+pub(crate) fn words_of(words: &[u16]) {
     let mut i = 0;
     while i < words.len() {
         next_word(words[i]);
@@ -64,7 +64,7 @@ pub fn words_of(words: &[u16]) {
 }
 
 // The bytes that stand on a line of so many words.
-pub fn bytes_on(line: &[u16], words: usize) {
+pub(crate) fn bytes_on(line: &[u16], words: usize) {
     let mut i = 1;
     while i < words / 2 {
         next_byte(byte_at(line, i - 1));

@@ -104,7 +104,7 @@ fn cell(range: Range, mask: u16, c: u8, register: u16) {
 }
 
 // Measurements 128, 8064, 0, 16383, 8192 twice and 11796, each times 4; then what is turned away or not measured.
-pub fn worked() {
+pub(crate) fn worked() {
     cell(Range::Unipolar, 0x001, 1, 512);
     cell(Range::Bipolar, 0x002, 2, 32256);
     cell(Range::Bipolar, 0x001, 1, 0);
@@ -151,7 +151,7 @@ fn sweep(range: Range) {
     text(b"\n");
 }
 
-pub fn sweeps() {
+pub(crate) fn sweeps() {
     sweep(Range::Unipolar);
     sweep(Range::Bipolar);
 }

@@ -15,7 +15,7 @@ ghost use mathlib.Core.Path.{_≡_};
 ghost use lib.ListN.{length};
 
 // A question about register 12h.
-pub fn ask(kind: u8, n: u8, alive: u8, seed: u8) -> Question {
+pub(crate) fn ask(kind: u8, n: u8, alive: u8, seed: u8) -> Question {
     Question {
         kind,
         n,
@@ -27,7 +27,7 @@ pub fn ask(kind: u8, n: u8, alive: u8, seed: u8) -> Question {
     }
 }
 
-pub fn show_question(q: Question) {
+pub(crate) fn show_question(q: Question) {
     text(b"kind ");
     number(q.kind as usize);
     text(b", n ");
@@ -69,7 +69,7 @@ fn command(q: Question) {
 }
 
 // n 32 is good and 33 is not, HELLOALL excepted.
-pub fn commands() {
+pub(crate) fn commands() {
     command(ask(READALL, 1, 0, 0));
     command(ask(READDEVICE, 1, 1, 0xFF));
     command(ask(WRITEALL, 32, 1, 0xF0));
