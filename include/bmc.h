@@ -9,15 +9,15 @@
  *
  * WORDS AND BYTES. A word of a line, a register's value and a register of the
  * twin's memory are two bytes each, low byte first, at any alignment. Lengths
- * count bytes; places count words from 0. An output of an odd number of bytes
- * has room for the whole words in it: its last byte counts for no room and
- * stays as it is.
+ * count bytes, but for bmc_cells' outputs (see there); places count words from
+ * 0. An output of an odd number of bytes has room for the whole words in it: its
+ * last byte counts for no room and stays as it is.
  *
  * REFUSALS. A result carries a number in its lowest byte (only bmc_part's and
- * bmc_pec's do not, which never refuse): 0 when the call was accepted, else the number of
- * the first check that failed, in the order given at each call. A refused call
- * changes no byte of lent memory. What an accepted call does not write stays as
- * it is. Bits of a result that are not mentioned are 0.
+ * bmc_pec's do not, which never refuse): 0 when the call was accepted, else the
+ * number of the first check that failed, in the order given at each call. A
+ * refused call changes no byte of lent memory. What an accepted call does not
+ * write stays as it is. Bits of a result that are not mentioned are 0.
  *
  * WHAT THE CALLER OWES, in every call:
  *  - each pointer is valid for the length beside it, for reading where it is
@@ -25,8 +25,8 @@
  *    length of 0 (nothing is read or written through it then);
  *  - memory that a call writes overlaps no other memory lent to that call;
  *  - no one else changes lent memory while the call runs.
- * Nothing else is owed, but for bmc_cell's two outputs (see there): every value of
- * every number has its answer below.
+ * Nothing else is owed, but for the outputs of bmc_cell and bmc_cells (see there):
+ * every value of every number has its answer below.
  */
 #ifndef BMC_H
 #define BMC_H
@@ -75,6 +75,10 @@ enum {
 #define BMC_MOST_DEVICES 32
 #define BMC_VALUES_MOST_BYTES (2 * BMC_MOST_DEVICES)
 
+/* The cells of a device, and the bytes of their registers. */
+#define BMC_CELLS 12
+#define BMC_CELLS_BYTES (2 * BMC_CELLS)
+
 /* The twin's memory for a chain of n devices. */
 #define BMC_TWIN_BYTES(n) ((size_t)512 * (n))
 
@@ -82,7 +86,8 @@ enum {
 #define BMC_FILE_MOST_BYTES 65536
 #define BMC_CERTIFICATE_MOST 82143
 
-/* Every result but bmc_part's: the number. */
+/* Every result but bmc_part's and bmc_pec's, and each answer of bmc_cells: the
+ * number. */
 #define BMC_NUMBER(result) ((uint8_t)((result) & 0xFFu))
 
 /* bmc_read: the byte of CHECK and COUNT, the count of an accepted HELLOALL. */
@@ -98,7 +103,8 @@ enum {
 #define BMC_PART_WORDS(result) ((uint8_t)((result) & 0xFFu))
 #define BMC_PART_PLACE(result) ((uint16_t)((result) >> 16 & 0xFFFFu))
 
-/* bmc_cell: 1 when the cell was measured and both outputs were written. */
+/* bmc_cell, and each answer of bmc_cells: 1 when the cell was measured and its
+ * microvolts and volts were written. */
 #define BMC_MEASURED(result) ((uint8_t)((result) >> 8 & 0xFFu))
 
 /* bmc_certificate: the bytes of text written. */
@@ -199,6 +205,31 @@ uint32_t bmc_cell(uint8_t cell, uint16_t enabled, uint16_t reg, uint8_t bipolar,
                   int32_t *microvolts, float *volts);
 
 /*
+ * The twelve cells of one measurement, from their registers: two bytes each, low
+ * first, cell 1's first. The counts of the three outputs count their numbers. In
+ * this order:
+ *   QUESTION  bipolar is neither 0 nor 1;
+ *   ROOM      microvolts, volts or answers has room for fewer than 12;
+ *   LENGTH    register_bytes is not 24.
+ * Accepted: answers[k] is what bmc_cell answers for cell k + 1 by its register,
+ * for k from 0 to 11, and microvolts[k] and volts[k] are written as bmc_cell
+ * writes them, so
+ *   the cell is not enabled: BMC_NUMBER(answers[k]) and BMC_MEASURED(answers[k])
+ *                            are 0;
+ *   LOW BITS:                BMC_NUMBER(answers[k]) is 13, BMC_MEASURED 0;
+ *   else:                    BMC_NUMBER(answers[k]) is 0, BMC_MEASURED 1.
+ * Only in the last case are microvolts[k] and volts[k] written. One cell's LOW
+ * BITS does not refuse the call: its result is 0. Beyond the twelfth nothing is
+ * written.
+ * The caller owes microvolts, volts and answers aligned for their types.
+ */
+uint32_t bmc_cells(uint16_t enabled, uint8_t bipolar,
+                   const uint8_t *registers, size_t register_bytes,
+                   int32_t *microvolts, size_t microvolts_count,
+                   float *volts, size_t volts_count,
+                   uint32_t *answers, size_t answers_count);
+
+/*
  * The certificate of a job file, as text; no zero byte closes it. A job file is
  * a header (the bytes 'B' 'M' 'C', version 1 in two bytes, n, alive) and entries
  * (kind, register, value in two bytes, device, seed, number of words in two
@@ -235,8 +266,8 @@ uint32_t bmc_twin_power_on(uint8_t n, uint8_t *memory, size_t memory_bytes);
  * this order:
  *   TWIN    n is not 1..32, or memory_bytes is not exactly 512 * n, or device
  *           is n or more;
- *   LENGTH  line_bytes is odd, or the line has more than 140 words;
- *   ROOM    out is shorter than the line.
+ *   ROOM    out has fewer whole words than the line;
+ *   LENGTH  line_bytes is odd.
  * Accepted: the line handed on stands at the front of out. The device acts only
  * on a line that is a command to this chain of n, for this device, as the devices
  * before it would have left it: HELLOALL with the last byte equal to device;
@@ -245,8 +276,9 @@ uint32_t bmc_twin_power_on(uint8_t n, uint8_t *memory, size_t memory_bytes);
  * HELLOALL's last byte; or takes a write's value into its register (00h keeps its
  * own); or puts its register directly behind the register byte, drops one fill
  * pair and works the PEC afresh; and adds one to the alive byte, after FFh 00h.
- * Every other line is handed on as it came and memory stays. For a READALL,
- * check byte and PEC stand behind the values already on the line.
+ * Every other line, of whatever length, is handed on as it came and memory
+ * stays. For a READALL, check byte and PEC stand behind the values already on
+ * the line.
  * line, out and memory lie apart.
  */
 uint32_t bmc_twin_step(uint8_t n, uint8_t device,

@@ -97,6 +97,16 @@ uint32_t expect_part(struct s_question q, unsigned named,
                      const uint8_t *line, size_t line_bytes);
 uint32_t expect_cell(unsigned cell, unsigned enabled, unsigned reg,
                      unsigned bipolar, int32_t *microvolts, float *volts);
+/* The three outputs of bmc_cells, and how many numbers each has room for. */
+struct cell_outputs {
+    int32_t *microvolts;
+    float *volts;
+    uint32_t *answers;
+    size_t counts[3];
+};
+uint32_t expect_cells(unsigned enabled, unsigned bipolar,
+                      const uint8_t *registers, size_t register_bytes,
+                      struct cell_outputs outputs);
 uint32_t expect_certificate(const uint8_t *file, size_t file_bytes,
                             uint8_t *text, size_t text_bytes);
 uint32_t expect_power_on(unsigned n, uint8_t *memory, size_t memory_bytes);

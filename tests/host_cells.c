@@ -1,6 +1,7 @@
 /*
  * host_cells.c: bmc_cell for all 65,536 registers in both ranges, for cell
- * numbers inside, at the edges and outside, enabled and not.
+ * numbers inside, at the edges and outside, enabled and not; and bmc_cells for
+ * measurements of twelve, with room and lengths right and wrong.
  *
  * The voltage is compared bit by bit: zero must be plus zero.
  */
@@ -87,6 +88,104 @@ static void try_any_cell(void)
     try_cell(cell, any(65536), any(65536), bipolar);
 }
 
+/* ---- Twelve at a time --------------------------------------------------- */
+
+enum { MOST_CELLS = 16, MOST_CELL_BYTES = 4 * MOST_CELLS, MOST_REGISTER_BYTES = 48 };
+
+static struct lent registers_memory, outputs_memory[3];
+
+static void make_memories(void)
+{
+    if (registers_memory.low != NULL)
+        return;
+    make_lent(&registers_memory, MOST_REGISTER_BYTES);
+    for (size_t i = 0; i < 3; i++)
+        make_lent(&outputs_memory[i], MOST_CELL_BYTES);
+}
+
+/* The three outputs, one behind the other, as the report shows them. */
+static size_t join_outputs(struct cell_outputs o, uint8_t all[3 * MOST_CELL_BYTES])
+{
+    const void *from[3] = { o.microvolts, o.volts, o.answers };
+    size_t bytes = 0;
+    for (size_t i = 0; i < 3; i++) {
+        memcpy(all + bytes, from[i], 4 * o.counts[i]);
+        bytes += 4 * o.counts[i];
+    }
+    return bytes;
+}
+
+static void set_cells_trial(unsigned enabled, unsigned bipolar, const size_t counts[3],
+                            const uint8_t *registers, size_t register_bytes)
+{
+    const unsigned long figures[5] = {
+        enabled, bipolar, counts[0], counts[1], counts[2]
+    };
+    set_trial("bmc_cells", "enabled bipolar microvolts volts answers", figures, 5);
+    trial.given[0] = (struct given){ "registers", registers, register_bytes };
+}
+
+static void compare_cells(unsigned enabled, unsigned bipolar, const size_t counts[3],
+                          const uint8_t *registers, size_t register_bytes)
+{
+    int32_t microvolts[MOST_CELLS];
+    float volts[MOST_CELLS];
+    uint32_t answers[MOST_CELLS];
+    uint8_t ours[3 * MOST_CELL_BYTES], theirs[3 * MOST_CELL_BYTES];
+    make_memories();
+    set_cells_trial(enabled, bipolar, counts, registers, register_bytes);
+    lend_copy(&registers_memory, registers, register_bytes);
+    memcpy(microvolts, lend(&outputs_memory[0], 4 * counts[0]), 4 * counts[0]);
+    memcpy(volts, lend(&outputs_memory[1], 4 * counts[1]), 4 * counts[1]);
+    memcpy(answers, lend(&outputs_memory[2], 4 * counts[2]), 4 * counts[2]);
+    struct cell_outputs lent = {
+        (void *)outputs_memory[0].at, (void *)outputs_memory[1].at,
+        (void *)outputs_memory[2].at, { counts[0], counts[1], counts[2] }
+    };
+    struct cell_outputs copies = {
+        microvolts, volts, answers, { counts[0], counts[1], counts[2] }
+    };
+    uint32_t result = bmc_cells((uint16_t)enabled, (uint8_t)bipolar,
+                                registers_memory.at, register_bytes,
+                                lent.microvolts, counts[0], lent.volts, counts[1],
+                                lent.answers, counts[2]);
+    uint32_t expected = expect_cells(enabled, bipolar, registers, register_bytes, copies);
+    size_t bytes = join_outputs(lent, ours);
+    join_outputs(copies, theirs);
+    settle("microvolts, volts and answers", (struct side){ result, ours, bytes },
+           (struct side){ expected, theirs, bytes });
+    check_input(&registers_memory, registers);
+    for (size_t i = 0; i < 3; i++)
+        check_guards(&outputs_memory[i]);
+    count_input(BMC_NUMBER(result));
+}
+
+/* Room for twelve or more, or now and then for fewer. */
+static size_t any_count(void)
+{
+    return any(16) > 0 ? between(12, MOST_CELLS) : any(12);
+}
+
+/* Registers with low bits in one of eight. */
+static void put_registers(uint8_t *registers, size_t register_bytes)
+{
+    any_bytes(registers, register_bytes);
+    for (size_t i = 0; i < register_bytes; i += 2)
+        if (any(8) > 0)
+            registers[i] &= 0xFC;
+}
+
+static void try_any_cells(void)
+{
+    uint8_t registers[MOST_REGISTER_BYTES];
+    const size_t counts[3] = { any_count(), any_count(), any_count() };
+    size_t register_bytes = any(8) > 0 ? BMC_CELLS_BYTES : any(MOST_REGISTER_BYTES + 1);
+    unsigned bipolar = any(8) > 0 ? any(2) : any(256);
+    unsigned enabled = any(2) > 0 ? 0x0FFF : any(65536);
+    put_registers(registers, register_bytes);
+    compare_cells(enabled, bipolar, counts, registers, register_bytes);
+}
+
 enum { ANY_CELLS = 200000 };
 
 void try_cells(void)
@@ -95,6 +194,8 @@ void try_cells(void)
         try_register(reg);
     for (unsigned long i = 0; i < rounds(ANY_CELLS); i++)
         try_any_cell();
-    need_numbers(S_QUESTION, S_QUESTION);
+    for (unsigned long i = 0; i < rounds(ANY_CELLS); i++)
+        try_any_cells();
+    need_numbers(S_QUESTION, S_LENGTH);
     need_numbers(S_CHANNEL, S_LOW_BITS);
 }

@@ -2,8 +2,9 @@
  * host_expect.c: what the reference says, in the library's form.
  *
  * second.c speaks of words and of structs, bmc.h of bytes and packed results.
- * A line that second.c cannot be given (an odd number of bytes, or too many)
- * is handed over as an empty one, whose length is as wrong.
+ * To the reader, a line that second.c cannot be given (an odd number of bytes,
+ * or too many) is handed over as an empty one, whose length is as wrong; to the
+ * twin's step, the whole words of any line.
  */
 #include "host.h"
 
@@ -95,6 +96,33 @@ uint32_t expect_cell(unsigned cell, unsigned enabled, unsigned reg,
     return packed((unsigned)number, (unsigned)measured, 0);
 }
 
+/* Range and registers' length are the header's; the twelve cells are 01's. */
+uint32_t expect_cells(unsigned enabled, unsigned bipolar,
+                      const uint8_t *registers, size_t register_bytes,
+                      struct cell_outputs outputs)
+{
+    uint16_t words[12];
+    struct s_measured cells[12];
+    if (bipolar > 1)
+        return packed(S_QUESTION, 0, 0);
+    for (size_t i = 0; i < 3; i++)
+        if (outputs.counts[i] < 12)
+            return packed(S_ROOM, 0, 0);
+    if (register_bytes != 24)
+        return packed(S_LENGTH, 0, 0);
+    to_words(registers, 12, words);
+    s_cells(enabled, (int)bipolar, words, cells);
+    for (size_t k = 0; k < 12; k++) {
+        outputs.answers[k] = packed((unsigned)cells[k].number,
+                                    (unsigned)cells[k].measured, 0);
+        if (cells[k].measured) {
+            outputs.microvolts[k] = cells[k].microvolts;
+            outputs.volts[k] = cells[k].volts;
+        }
+    }
+    return packed(S_ACCEPTED, 0, 0);
+}
+
 uint32_t expect_certificate(const uint8_t *file, size_t file_bytes,
                             uint8_t *text, size_t text_bytes)
 {
@@ -133,17 +161,18 @@ uint32_t expect_step(unsigned n, unsigned device,
                      uint8_t *out, size_t out_bytes)
 {
     uint16_t registers[256 * BMC_MOST_DEVICES];
-    uint16_t words[BMC_LINE_MOST_WORDS], next[BMC_LINE_MOST_WORDS];
+    uint16_t words[LINE_MOST / 2], next[LINE_MOST / 2];
+    size_t count = line_bytes / 2;
     if (!is_twin(n, device, memory_bytes))
         return S_TWIN;
-    if (!is_line(line_bytes))
-        return S_LENGTH;
-    size_t count = line_words(line, line_bytes, words);
+    to_words(line, count, words);
     to_words(memory, memory_bytes / 2, registers);
     int number = s_step(n, device, registers, memory_bytes / 2, words, count,
-                        next, room_words(out_bytes, BMC_LINE_MOST_WORDS));
+                        next, room_words(out_bytes, LINE_MOST / 2));
     if (number != S_ACCEPTED)
         return (uint32_t)number;
+    if (line_bytes % 2 != 0)
+        return S_LENGTH;
     to_bytes(registers, memory_bytes / 2, memory);
     to_bytes(next, count, out);
     return S_ACCEPTED;

@@ -221,7 +221,45 @@ static void try_smooth(struct chain *c)
     check_answer(c, q);
 }
 
+/* A line longer than any command passes every device as it came, whatever it
+ * begins with, and no register changes. */
+static void try_long(struct chain *c)
+{
+    static uint8_t line[LINE_MOST], registers[MEMORY_MOST];
+    put_command(c, chain_question(c->n));
+    any_bytes(c->line + c->line_bytes, LINE_MOST - c->line_bytes);
+    c->line_bytes = 2 * between(BMC_LINE_MOST_WORDS + 1, LINE_MOST / 2);
+    memcpy(line, c->line, c->line_bytes);
+    memcpy(registers, c->memory, c->memory_bytes);
+    for (unsigned device = 0; device < c->n; device++)
+        must(compare_step(c, device, c->line_bytes + any(20)) == BMC_ACCEPTED,
+             "a long line was turned away");
+    must(memcmp(line, c->line, c->line_bytes) == 0, "a long line was changed");
+    must(memcmp(registers, c->memory, c->memory_bytes) == 0,
+         "a long line changed a register");
+}
+
 /* ---- Refusals ----------------------------------------------------------- */
+
+/* Each row alone and where two of them hold: TWIN, then ROOM, then LENGTH. */
+static void try_order(void)
+{
+    static struct chain c;
+    for (unsigned over = 0; over <= 1; over++)
+        for (unsigned odd = 0; odd <= 1; odd++)
+            for (unsigned short_of = 0; short_of <= 3; short_of++) {
+                set_chain(&c, 2);
+                put_command(&c, chain_question(2));
+                c.line_bytes += odd;
+                size_t room = c.line_bytes - short_of;
+                unsigned expected = over ? S_TWIN
+                                    : room / 2 < c.line_bytes / 2 ? S_ROOM
+                                    : odd ? S_LENGTH : S_ACCEPTED;
+                must(BMC_NUMBER(compare_step(&c, over ? 2 : 1, room)) == expected,
+                     "not the first row that holds");
+            }
+}
+
 
 static void try_refusal(struct chain *c)
 {
@@ -250,8 +288,10 @@ void try_twin(void)
             try_smooth(&c);
             try_rough(&c);
         }
+        try_long(&c);
     }
     try_nearly_right_chains(&c);
+    try_order();
     for (unsigned long i = 0; i < rounds(REFUSALS); i++)
         try_refusal(&c);
     need_numbers(S_ACCEPTED, S_ACCEPTED);

@@ -465,6 +465,17 @@ int s_cell(unsigned cell, unsigned enabled, unsigned reg, int bipolar,
     return S_ACCEPTED;
 }
 
+void s_cells(unsigned enabled, int bipolar, const uint16_t registers[12],
+             struct s_measured cells[12])
+{
+    for (unsigned cell = 1; cell <= 12; cell++) {
+        struct s_measured *c = &cells[cell - 1];
+        *c = (struct s_measured){ 0 };
+        c->number = s_cell(cell, enabled, registers[cell - 1], bipolar,
+                           &c->measured, &c->microvolts, &c->volts);
+    }
+}
+
 /* ---- 01, 'The twin': registers ------------------------------------------ */
 
 /* 01, 'Turned away', row 15, without the device. */

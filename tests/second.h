@@ -87,6 +87,16 @@ void s_part(struct s_question q, unsigned device,
 int s_cell(unsigned cell, unsigned enabled, unsigned reg, int bipolar,
            int *measured, int32_t *microvolts, float *volts);
 
+/* 01, 'Cells', of the twelve cells of one measurement, cell 1 first. */
+struct s_measured {
+    int number;                     /* 0 or LOW BITS */
+    int measured;
+    int32_t microvolts;
+    float volts;
+};
+void s_cells(unsigned enabled, int bipolar, const uint16_t registers[12],
+             struct s_measured cells[12]);
+
 /* 01, 'The twin': the registers after power-on; 0 or TWIN. */
 int s_power_on(unsigned n, uint16_t *memory, size_t words);
 

@@ -263,6 +263,19 @@ static void worked_cell_bounds(void)
     check(cell_number(255, 0, 1, &measured) == 12, "cell 255 CHANNEL");
 }
 
+/* Cell 1 good, cell 2 with a low bit, cell 12 good, the others not enabled. */
+static void worked_twelve_cells(void)
+{
+    const uint16_t registers[12] = { 512, 513, [10] = 1, [11] = 65532 };
+    struct s_measured cells[12];
+    s_cells(0xF803, 0, registers, cells);
+    check(cells[0].measured && cells[0].microvolts == 39063, "the first of twelve");
+    check(cells[1].number == 13 && !cells[1].measured, "LOW BITS of one of twelve");
+    for (int i = 2; i < 11; i++)
+        check(cells[i].number == 0 && !cells[i].measured, "not enabled, of twelve");
+    check(cells[11].measured && cells[11].microvolts == 4999695, "the last of twelve");
+}
+
 static int read_number(struct s_question q, const uint16_t *line, size_t words)
 {
     uint16_t values[32];
@@ -320,6 +333,7 @@ static void check_worked(void)
     check(alive_after(32, 0xF0) == 0x10, "seed F0h, 32 devices: 10h");
     worked_cells();
     worked_cell_bounds();
+    worked_twelve_cells();
     worked_longest();
     worked_bounds();
     worked_entry();
@@ -989,6 +1003,20 @@ static void check_twin_hello(void)
     check(!acts(32, 0, line, wire(hello, sizeof hello, line)), "HELLOALL A7h passes");
 }
 
+/* A line of more than 140 words is any other line. */
+static void check_twin_long(void)
+{
+    struct s_question q = { .kind = 3, .n = 32, .alive = 1, .reg = 0x12 };
+    uint16_t line[MOST + 4];
+    any_chain(32);
+    check(send(q, line) == MOST, "the longest command");
+    check(acts(32, 0, line, MOST), "140 words are acted on");
+    for (size_t words = MOST + 1; words <= MOST + 4; words++) {
+        line[words - 1] = 0xEA8;
+        check(!acts(32, 0, line, words), "more than 140 words pass");
+    }
+}
+
 /* TWIN, then ROOM; nothing changes. */
 static void check_twin_refusals(void)
 {
@@ -1016,6 +1044,7 @@ static void check_twin(void)
     check_twin_spoiled();
     check_twin_read_all();
     check_twin_hello();
+    check_twin_long();
     check_twin_refusals();
 }
 

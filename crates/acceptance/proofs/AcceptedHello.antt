@@ -1,6 +1,5 @@
 -- The bytes of an accepted answer to HELLOALL are those of a right answer, and its count is 1 to 32.
 use mathlib.Core.Path.{_≡_, refl, sym, ap, ap₂, _∙_}
-use mathlib.Core.Bool.{Bool, true, false, cond, _&&_}
 use mathlib.Core.List.{List, [], _∷_}
 use Prim.Native.Nat.{ℕ, _+_, _*_, _≤_}
 use native.Mathlib.Omega.{arith}
@@ -14,10 +13,8 @@ use Rattle.questions.specs.Bytes.{answerBytes}
 use Rattle.questions.specs.declared.question.Question.{Question}
 use Rattle.questions.proofs.ByKind.{of-hello}
 use Rattle.questions.proofs.Good.{hello-shape}
-use Rattle.contents.specs.Rows.{byteIn, settledCount}
-use Rattle.readings.specs.Reading.{numberOf}
-use Rattle.readings.specs.declared.Refusal.the-variants.{Count}
-use Rattle.readings.specs.declared.Reading.the-variants.{Counted, Refused}
+use Rattle.contents.specs.Rows.{byteIn}
+use Rattle.contents.proofs.RowLaws.{hello-count}
 use Rattle.judging.proofs.Accepted.{Taken}
 use Rattle.acceptance.proofs.AcceptedBytes.{length-own, first-is, rest-is}
 
@@ -37,10 +34,8 @@ module _ (q : Question) (line : List ℕ) (room : ℕ) (t : Taken q line room) w
       all-three (bytesOf line) (length-own q line room t 3 words)
       ∙ ap₂ (λ (x y : ℕ). x ∷ y ∷ byteIn (bytesOf line) 2 ∷ []) (first-is q line room t) second ∙ sym (of-hello (q .kind) _ _ _ e)
 
-pub right-count : (b : ℕ) → numberOf (settledCount b) ≡ 0 → (1 ≤ b) × (b ≤ 32)
-unfolding settledCount
-right-count b = by-test (leb 1 b && leb b 32) refl
-  where
-    by-test : (t : Bool) → (leb 1 b && leb b 32) ≡ t → numberOf (cond t (Counted b) (Refused (Count b))) ≡ 0 → (1 ≤ b) × (b ≤ 32)
-    by-test true e z = (leb-true 1 b (and-left _ _ e), leb-true b 32 (and-right (leb 1 b) _ e))
-    by-test false e z = absurd (omega arith)
+  pub right-count : q .kind ≡ 0 → (1 ≤ byteIn (bytesOf line) 2) × (byteIn (bytesOf line) 2 ≤ 32)
+  right-count e =
+      let b = byteIn (bytesOf line) 2 in
+      let right = hello-count q (bytesOf line) e ∙ t .count in
+      (leb-true 1 b (and-left _ _ right), leb-true b 32 (and-right (leb 1 b) _ right))

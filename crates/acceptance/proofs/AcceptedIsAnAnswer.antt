@@ -7,7 +7,6 @@ use Prim.Native.Nat.{ℕ, _+_, _*_, _≤_, _<_}
 use native.Mathlib.Nat.{eq-zero-or-pos}
 use native.Mathlib.Omega.{arith}
 use Rattle.ground.proofs.Test.{below-or-not}
-use Rattle.ground.proofs.Sweep.{length-tabulated}
 use Rattle.lines.specs.Line.{lineOf, bytesOf}
 use Rattle.scanning.proofs.Whole.{own-bytes}
 use Rattle.questions.specs.Shape.{shapeOf}
@@ -15,25 +14,25 @@ use Rattle.questions.specs.Bytes.{answerBytes}
 use Rattle.questions.specs.declared.question.Question.{Question}
 use Rattle.questions.proofs.ByKind.{of-hello, of-write, of-read}
 use Rattle.questions.proofs.Good.{good-kind, hello-shape, write-shape, read-shape}
-use Rattle.contents.specs.Rows.{byteIn, settledCount, settled}
+use Rattle.contents.specs.Rows.{byteIn, takenOf}
 use Rattle.readings.specs.Reading.{numberOf, valuesTaken}
 use Rattle.judging.specs.Judge.{judgeOf}
 use Rattle.readings.specs.declared.Reading.the-variants.{Counted, Written, Values}
-use Rattle.reader.specs.Read.{valueIn, valuesOn}
-use Rattle.judging.proofs.Accepted.{Taken, taken-settles, accepted-takes}
-use Rattle.contents.proofs.RowLaws.{hello-settled, write-settled, read-settled, count-right}
+use Rattle.reader.specs.Read.{valuesOn}
+use Rattle.judging.proofs.Accepted.{Taken, taken-reads, accepted-takes}
+use Rattle.contents.proofs.RowLaws.{hello-taken, write-taken, read-taken}
 use Rattle.acceptance.specs.Answer.{Answered}
 use Rattle.acceptance.specs.Answer.Fitting.{hello, write, read}
 use Rattle.acceptance.proofs.AcceptedHello.{hello-bytes, right-count}
 use Rattle.acceptance.proofs.AcceptedWrite.{write-bytes}
-use Rattle.acceptance.proofs.AcceptedRead.{read-bytes, register-values}
+use Rattle.acceptance.proofs.AcceptedRead.{read-bytes, read-values}
 
 module _ (q : Question) (line : List ℕ) (room : ℕ) (accepted : numberOf (judgeOf q line room) ≡ 0) where
   taken : Taken q line room
   taken = accepted-takes q line room accepted
 
-  verdict : judgeOf q line room ≡ settled q (bytesOf line)
-  verdict = taken-settles q line room taken
+  verdict : judgeOf q line room ≡ takenOf q (bytesOf line)
+  verdict = taken-reads q line room taken
 
   answer-line : (values : List ℕ) (count : ℕ) → shapeOf q .words ≡ 2 * count + 2 → bytesOf line ≡ answerBytes q values 0
       → line ≡ lineOf (answerBytes q values 0)
@@ -42,9 +41,8 @@ module _ (q : Question) (line : List ℕ) (room : ℕ) (accepted : numberOf (jud
   hello-answered : q .kind ≡ 0 → Answered q line room
   hello-answered e =
       let b = byteIn (bytesOf line) 2 in
-      let says : judgeOf q line room ≡ settledCount b = verdict ∙ sym (hello-settled q (bytesOf line) e) in
-      let right = right-count b (ap numberOf (sym says) ∙ accepted) in
-      let reading : judgeOf q line room ≡ Counted b = says ∙ sym (count-right b (right .0) (right .1)) in
+      let right = right-count q line room taken e in
+      let reading : judgeOf q line room ≡ Counted b = verdict ∙ sym (hello-taken q (bytesOf line) e) in
       record {
         values = b ∷ [];
         answer = record {
@@ -59,7 +57,7 @@ module _ (q : Question) (line : List ℕ) (room : ℕ) (accepted : numberOf (jud
   write-answered lo hi =
       let s = write-shape q lo hi in
       let words : shapeOf q .words ≡ 2 * (5 + q .alive) + 2 = omega (arith, s .words) in
-      let reading : judgeOf q line room ≡ Written = verdict ∙ sym (write-settled q (bytesOf line) lo hi) in
+      let reading : judgeOf q line room ≡ Written = verdict ∙ sym (write-taken q (bytesOf line) lo hi) in
       record {
         values = [];
         answer = record { fitting = write lo hi refl; written = answer-line [] (5 + q .alive) words (write-bytes q line room taken lo hi) };
@@ -72,11 +70,11 @@ module _ (q : Question) (line : List ℕ) (room : ℕ) (accepted : numberOf (jud
       let m = shapeOf q .values in
       let s = read-shape q lo in
       let words : shapeOf q .words ≡ 2 * (2 * m + 4 + q .alive) + 2 = omega (arith, s .words) in
-      let reading : judgeOf q line room ≡ Values m = verdict ∙ sym (read-settled q (bytesOf line) lo) in
+      let reading : judgeOf q line room ≡ Values m = verdict ∙ sym (read-taken q (bytesOf line) lo) in
       record {
         values = valuesOn line m;
         answer = record {
-          fitting = read lo (good-kind q (taken .good)) (record { number = length-tabulated (valueIn (bytesOf line) m) m 0; registers = register-values line m });
+          fitting = read lo (good-kind q (taken .good)) (read-values q line room taken lo);
           written = answer-line (valuesOn line m) (2 * m + 4 + q .alive) words (read-bytes q line room taken lo);
         };
         reading = reading ∙ sym (of-read (q .kind) _ _ _ lo);

@@ -1,10 +1,11 @@
 -- The line of a right answer to HELLOALL is accepted, with its count.
-use mathlib.Core.Path.{_≡_, refl, sym, ap, _∙_}
-use mathlib.Core.Bool.{true}
+use mathlib.Core.Path.{_≡_, refl, sym, ap, ap₂, _∙_}
+use mathlib.Core.Bool.{true, _&&_}
 use mathlib.Core.List.{List, [], _∷_}
 use Prim.Native.Nat.{ℕ, _≤_}
 use native.Mathlib.Omega.{arith}
 use lib.Dec.{lit<}
+use borrow.Author.Tests.{le-leb}
 use Rattle.remainder.specs.Turned.{Bytes}
 use Rattle.lines.specs.Line.{lineOf, bytesOf}
 use Rattle.lines.proofs.Line.{length-line, bytes-of-line}
@@ -13,10 +14,10 @@ use Rattle.questions.specs.Question.{goodQuestion}
 use Rattle.questions.specs.Shape.{shapeOf}
 use Rattle.questions.specs.declared.question.Question.{Question}
 use Rattle.questions.proofs.Good.{good-first, hello-shape}
-use Rattle.contents.specs.Rows.{byteIn, echoed, settledCount}
+use Rattle.contents.specs.Rows.{byteIn, echoed, countRight}
 use Rattle.judging.specs.Judge.{judgeOf}
 use Rattle.readings.specs.declared.Reading.the-variants.{Counted}
-use Rattle.judging.proofs.Accepted.{Taken, taken-settles}
+use Rattle.judging.proofs.Accepted.{Taken, taken-reads}
 use Rattle.contents.proofs.RowLaws
 use Rattle.acceptance.specs.Answer.{Sendable}
 use Rattle.acceptance.proofs.Wire.{bytes-cons, no-bytes}
@@ -47,10 +48,11 @@ module _ (q : Question) (good : goodQuestion q ≡ true) (s : Sendable q) (room 
           pec = sym (RowLaws.hello-pec q (bytesOf (lineOf hello-bytes)) e);
           alive = sym (RowLaws.hello-alive q (bytesOf (lineOf hello-bytes)) e);
           check = sym (RowLaws.no-check q (bytesOf (lineOf hello-bytes)) (omega arith));
+          count = ap (countRight q) own ∙ sym (RowLaws.hello-count q hello-bytes e) ∙ ap₂ _&&_ (le-leb 1 count least) (le-leb count 32 most);
         }
 
     pub hello-reads : judgeOf q (lineOf hello-bytes) room ≡ Counted count
     unfolding hello-bytes
     hello-reads =
-        taken-settles q (lineOf hello-bytes) room hello-takes ∙ sym (RowLaws.hello-settled q (bytesOf (lineOf hello-bytes)) e)
-        ∙ ap (λ (l : List ℕ). settledCount (byteIn l 2)) own ∙ sym (RowLaws.count-right count least most)
+        taken-reads q (lineOf hello-bytes) room hello-takes ∙ sym (RowLaws.hello-taken q (bytesOf (lineOf hello-bytes)) e)
+        ∙ ap (λ (l : List ℕ). Counted (byteIn l 2)) own

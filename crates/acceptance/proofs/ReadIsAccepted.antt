@@ -1,14 +1,12 @@
 -- The line of a right answer to a read is accepted, and the values handed out are those that it carries.
 use mathlib.Core.Path.{_≡_, refl, sym, ap, ap₂, _∙_}
 use mathlib.Core.Bool.{true}
-use mathlib.Core.List.{List, [], _∷_, _++_}
-use Prim.Native.Nat.{ℕ, suc, _+_, _-_, _*_, _/_, _%_, _≤_, _<_}
-use native.Mathlib.Nat.{zero-add}
+use mathlib.Core.List.{List, [], _∷_, _++_, append-assoc}
+use Prim.Native.Nat.{ℕ, suc, _+_, _-_, _*_, _≤_, _<_}
 use native.Mathlib.Omega.{arith}
 use lib.Dec.{lit<}
 use lib.ListN.{length, getD, length-append, List·getD-append}
-use lib.Seq.{ext-getD, getD-at}
-use Rattle.ground.proofs.Sweep.{length-tabulated, tabulated-at}
+use lib.Seq.{getD-at}
 use Rattle.remainder.specs.Turned.{Bytes}
 use Rattle.pec.specs.Pec.{pecOf}
 use Rattle.lines.specs.Line.{lineOf, bytesOf}
@@ -17,14 +15,15 @@ use Rattle.questions.specs.Shape.{shapeOf}
 use Rattle.questions.specs.Bytes.{onWire, aliveByte, sealed, readCovered}
 use Rattle.questions.specs.declared.question.Question.{Question}
 use Rattle.questions.proofs.Good.{good-first, read-shape}
+use Rattle.questions.proofs.Wire.{length-wire}
 use Rattle.contents.specs.Rows.{byteIn, checkByte}
 use Rattle.judging.specs.Judge.{judgeOf}
-use Rattle.reader.specs.Read.{valueIn, valuesIn, valuesOn}
+use Rattle.reader.specs.Read.{valuesIn, valuesOn}
 use Rattle.readings.specs.declared.Reading.the-variants.{Values}
-use Rattle.judging.proofs.Accepted.{Taken, taken-settles}
+use Rattle.judging.proofs.Accepted.{Taken, taken-reads}
 use Rattle.contents.proofs.RowLaws
 use Rattle.acceptance.specs.Answer.{Registers, Sendable}
-use Rattle.acceptance.proofs.Wire.{bytes-append, bytes-cons, no-bytes, length-wire, wire-at, wire-bytes}
+use Rattle.acceptance.proofs.Wire.{bytes-append, bytes-cons, no-bytes, wire-back, wire-bytes}
 use Rattle.acceptance.proofs.SealedIsAccepted.{bytes, own, takes}
 
 module _ (q : Question) (good : goodQuestion q ≡ true) (s : Sendable q) (room : ℕ) (enough : shapeOf q .values ≤ room) where
@@ -63,13 +62,9 @@ module _ (q : Question) (good : goodQuestion q ≡ true) (s : Sendable q) (room 
         let wire = length-wire values in
         ap (byteIn (sealed q (shapeOf q .acting) read-covered)) two ∙ List·getD-append (onWire values ++ (0 ∷ [])) behind 0 i (omega arith)
 
-    on-the-wire : (i : ℕ) → i < 2 * length values → byteIn read-sealed (2 + i) ≡ getD (onWire values) i 0
-    on-the-wire i h = inner i (omega arith) ∙ List·getD-append (onWire values) (0 ∷ []) 0 i (omega (arith, length-wire values))
-
     check-clear : checkByte q read-sealed ≡ 0
     check-clear =
-        let last : shapeOf q .covered - 1 ≡ 2 + 2 * length values = omega (arith, read-shape q lo .covered) in
-        sym (RowLaws.read-check q read-sealed lo) ∙ ap (byteIn read-sealed) last ∙ inner (2 * length values) (omega arith)
+        sym (RowLaws.read-check q read-sealed lo) ∙ ap (λ (m : ℕ). byteIn read-sealed (2 + 2 * m)) (sym number) ∙ inner (2 * length values) (omega arith)
         ∙ getD-at (onWire values) 0 [] 0 (2 * length values) (length-wire values)
 
     read-takes : Taken q read-line room
@@ -81,30 +76,16 @@ module _ (q : Question) (good : goodQuestion q ≡ true) (s : Sendable q) (room 
         (sym (RowLaws.read-echo q read-sealed refl lo refl)) check-clear
 
     pub read-reads : judgeOf q read-line room ≡ Values (shapeOf q .values)
-    read-reads = taken-settles q read-line room read-takes ∙ sym (RowLaws.read-settled q (bytesOf read-line) lo)
-
-    -- each device's value, once, in address order
-    whole : (v : ℕ) → v % 256 + 256 * (v / 256) ≡ v
-    whole v = omega arith
-
-    value-is : (k : ℕ) → k < length values → valueIn read-sealed (length values) k ≡ getD values k 0
-    value-is k h =
-        let i = 2 * (length values - 1 - k) in
-        let none : i ≡ i + 0 = omega arith in
-        let next : 2 + i + 1 ≡ 2 + (i + 1) = omega arith in
-        ap₂ (λ (x y : ℕ). x + 256 * y)
-        (on-the-wire i (omega arith) ∙ ap (λ (k : ℕ). getD (onWire values) k 0) none ∙ wire-at values k 0 h (lit< tt))
-        (ap (byteIn read-sealed) next ∙ on-the-wire (i + 1) (omega arith) ∙ wire-at values k 1 h (lit< tt))
-        ∙ whole (getD values k 0)
+    read-reads = taken-reads q read-line room read-takes ∙ sym (RowLaws.read-taken q (bytesOf read-line) lo)
 
     own-bytes : bytesOf read-line ≡ read-sealed
     unfolding read-line read-sealed bytes
     own-bytes = own q good s room enough (omega arith) read-covered read-are-bytes read-len
 
+    -- each device's value, once, in address order
     pub read-hands-out : valuesOn read-line (shapeOf q .values) ≡ values
+    unfolding read-sealed read-covered behind sealed
     read-hands-out =
-        let value = valueIn read-sealed (length values) in
         ap₂ valuesIn own-bytes (sym number)
-        ∙ ext-getD 0 (valuesIn read-sealed (length values)) values (length-tabulated value (length values) 0)
-        (λ k h. let below : k < length values = omega (arith, length-tabulated value (length values) 0) in
-        tabulated-at value (length values) 0 k below ∙ ap value (zero-add k) ∙ value-is k below)
+        ∙ ap (λ (l : List ℕ). valuesIn (shapeOf q .first ∷ q .reg ∷ l) (length values)) (append-assoc (onWire values) (0 ∷ []) behind)
+        ∙ wire-back (shapeOf q .first) (q .reg) values (0 ∷ behind) registers

@@ -76,4 +76,5 @@ module _ (q : Question) (good : goodQuestion q ≡ true) (s : Sendable q) (room 
           pec = ap (pecRight q) own ∙ pec-held;
           alive = ap (aliveRight q) own ∙ alive-held;
           check = ap (checkByte q) own ∙ check;
+          count = sym (RowLaws.no-count q (bytesOf (lineOf bytes)) lo);
         }

@@ -15,7 +15,7 @@ use Rattle.questions.specs.declared.question.Question.{Question}
 use Rattle.questions.proofs.Good.{good-first, write-shape}
 use Rattle.judging.specs.Judge.{judgeOf}
 use Rattle.readings.specs.declared.Reading.the-variants.{Written}
-use Rattle.judging.proofs.Accepted.{Taken, taken-settles}
+use Rattle.judging.proofs.Accepted.{Taken, taken-reads}
 use Rattle.contents.proofs.RowLaws
 use Rattle.acceptance.specs.Answer.{Sendable}
 use Rattle.acceptance.proofs.Wire.{bytes-cons, two-bytes}
@@ -43,4 +43,4 @@ module _ (q : Question) (good : goodQuestion q ≡ true) (s : Sendable q) (room 
         (sym (RowLaws.no-check q (sealed q (shapeOf q .acting) (writeCovered q)) hi))
 
     pub write-reads : judgeOf q write-line room ≡ Written
-    write-reads = taken-settles q write-line room write-takes ∙ sym (RowLaws.write-settled q (bytesOf write-line) lo hi)
+    write-reads = taken-reads q write-line room write-takes ∙ sym (RowLaws.write-taken q (bytesOf write-line) lo hi)

@@ -6,6 +6,7 @@ use Rattle.bmc.proofs.bmc_read.Reads as read
 use Rattle.bmc.proofs.bmc_command.Reads as command
 use Rattle.bmc.proofs.bmc_part.Reads as part
 use Rattle.bmc.proofs.bmc_cell.Reads as cell
+use Rattle.bmc.proofs.bmc_cells.Reads as cells
 use Rattle.bmc.proofs.bmc_certificate.Reads as certificate
 use Rattle.bmc.proofs.bmc_twin_power_on.Reads as power-on
 use Rattle.bmc.proofs.bmc_twin_step.Reads as step
@@ -34,6 +35,18 @@ cell-settled-microvolts l given r r′ left left′ p q = p .microvolts ∙ sym 
 
 pub cell-settled-volts : SettledIn (λ l left. now (left .1 .1 .1 .1 .1 .0)) cell.Post
 cell-settled-volts l given r r′ left left′ p q = p .volts ∙ sym (q .volts)
+
+pub cells-settled : Settled cells.Post
+cells-settled l given r r′ left left′ p q = p .says ∙ sym (q .says)
+
+pub cells-settled-microvolts : SettledIn (λ l left. now (left .1 .1 .1 .0)) cells.Post
+cells-settled-microvolts l given r r′ left left′ p q = p .microvolts ∙ sym (q .microvolts)
+
+pub cells-settled-volts : SettledIn (λ l left. now (left .1 .1 .1 .1 .0)) cells.Post
+cells-settled-volts l given r r′ left left′ p q = p .volts ∙ sym (q .volts)
+
+pub cells-settled-answers : SettledIn (λ l left. now (left .1 .1 .1 .1 .1 .0)) cells.Post
+cells-settled-answers l given r r′ left left′ p q = p .answers ∙ sym (q .answers)
 
 pub certificate-settled : Settled certificate.Post
 certificate-settled l given r r′ left left′ p q = p .says ∙ sym (q .says)

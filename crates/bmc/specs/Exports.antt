@@ -3,7 +3,7 @@ use mathlib.Core.Path.{_≡_}
 use mathlib.Core.List.{List}
 use Prim.Native.Nat.{ℕ, _+_, _*_}
 use Rattle.questions.specs.declared.question.Question.{Question}
-use Rattle.certificate.specs.Certificate.{certifiedOf, certificateAfter, certifiedNumber}
+use Rattle.certificate.specs.Certificate.{certifiedOf, certifiedNumber, textLeft}
 use Rattle.certificate.specs.declared.Certified.{Certified}
 use Rattle.certificate.specs.declared.Certified.the-variants.{Bytes, File, Room}
 
@@ -30,4 +30,4 @@ packedCertified c = certifiedNumber c + 256 * bytesWritten c
 -- what `bmc_certificate` says and leaves
 pub record CertificateBytesDone (file before after : List ℕ) (r : ℕ) : Type 0 where
   pub says : r ≡ packedCertified (certifiedOf file before)
-  pub leaves : after ≡ certificateAfter file before
+  pub leaves : after ≡ textLeft file before

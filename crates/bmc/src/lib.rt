@@ -1,6 +1,7 @@
 // The C side (document 01, "The C side"): what the adapters' firmware calls, over numbers and byte slices. Each function hands its arguments to
 // a proved crate below and keeps that crate's contract; include/bmc.h declares them, and docs/C_INTERFACE.md has the packing.
 use c_cells::cell_into;
+use c_cells::cells_into;
 use c_commands::command_bytes;
 use c_parts::part_bytes;
 use c_reader::read_bytes;
@@ -17,7 +18,9 @@ ghost use Rattle.c_commands.specs.CommandBytes.{CommandBytesDone};
 ghost use Rattle.c_reader.specs.ReadBytes.{ReadBytesDone};
 ghost use Rattle.c_parts.specs.PartBytes.{partIn};
 ghost use Rattle.c_cells.specs.CellBytes.{CellDone};
+ghost use Rattle.c_cells.specs.CellsBytes.{CellsDone};
 ghost use Rattle.c_twin.specs.TwinBytes.{PowerBytesDone, StepBytesDone};
+ghost use Rattle.certificate.specs.Certificate.{mostText};
 ghost use Rattle.bmc.specs.Exports.{asking, bytesWritten, packedCertified, CertificateBytesDone};
 
 #[no_mangle]
@@ -115,6 +118,20 @@ pub extern "C" fn bmc_cell(
     cell_into(cell, enabled, reg, bipolar, microvolts, volts)
 }
 
+#[no_mangle]
+pub extern "C" fn bmc_cells(
+    enabled: u16,
+    bipolar: u8,
+    registers: &[u8],
+    microvolts: &mut [i32],
+    volts: &mut [f32],
+    answers: &mut [u32],
+) -> u32
+    ensures { λ r. ⌜ CellsDone enabled bipolar (now (registers .entry)) (now (microvolts .entry)) (now (microvolts .exit)) (now (volts .entry)) (now (volts .exit)) (now (answers .entry)) (now (answers .exit)) r ⌝ }
+{
+    cells_into(enabled, bipolar, registers, microvolts, volts, answers)
+}
+
 // The PEC of some bytes, for firmware that frames its own.
 #[no_mangle]
 pub extern "C" fn bmc_pec(bytes: &[u8]) -> u32
@@ -138,7 +155,7 @@ fn question_of(kind: u8, n: u8, alive: u8, reg: u8, value: u16, device: u8, seed
 }
 
 fn packed_certified(certified: Certified) -> u32
-    requires { ⌜ bytesWritten certified ≤ 82143 ⌝ }
+    requires { ⌜ bytesWritten certified ≤ mostText ⌝ }
     ensures { λ r. ⌜ r ≡ packedCertified certified ⌝ }
 {
     match certified {

@@ -1,2 +1,4 @@
 mod Named
+mod ByCell
+mod Numbered
 pub mod Agree

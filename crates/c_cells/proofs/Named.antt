@@ -1,16 +1,19 @@
--- The whole answer by the range that is named: each of the three ways, from what a cell's answer gives.
-use mathlib.Core.Path.{_≡_, sym, ap, ap₂, _∙_}
+-- The whole answer by the range that is named: each of the three ways, from what a cell's answer, or the twelve cells' answers, give.
+use mathlib.Core.Path.{_≡_, sym, ap, ap₂, subst, _∙_}
 use mathlib.Core.Bool.{Bool, cond}
+use mathlib.Core.List.{List, []}
 use Prim.Native.Nat.{ℕ}
 use lib.Dec.{eqb}
 use lib.IntN.{ℤ}
 use lib.Ieee.{Float}
 use borrow.Author.Tests.{eq-eqb, ne-eqb}
-use Rattle.cells.specs.Cell.{cellOf}
+use Rattle.cells.specs.Cell.{cellOf, cellsOf}
 use Rattle.cells.specs.declared.Range.{Range}
 use Rattle.cells.specs.declared.Range.the-variants.{Unipolar, Bipolar}
 use Rattle.cells.specs.declared.Cell.{Cell}
 use Rattle.c_cells.specs.CellBytes.{packedCell, microvoltsOr, voltsOr, CellGiven, byRange, answerOf, microvoltsLeft, voltsLeft, CellDone}
+use Rattle.c_cells.specs.CellsBytes.{registersOf, roomNumber, cellsNumber, cellsRead, CellsGiven, CellsDone}
+use Rattle.c_cells.proofs.Numbered.{turned-away}
 
 module _ {A : Type 0} (bipolar : ℕ) (named : Range → A) (none : A) where
   is-unipolar : bipolar ≡ 0 → byRange bipolar named none ≡ named Unipolar
@@ -57,3 +60,30 @@ neither-done cell enabled register bipolar m v e f =
       microvolts = sym (is-neither bipolar (λ (range : Range). microvoltsOr (cellOf range enabled cell register) m) m e f);
       volts = sym (is-neither bipolar (λ (range : Range). voltsOr (cellOf range enabled cell register) v) v e f);
     }
+
+module _ (enabled bipolar : ℕ) (registers : List ℕ) (m m′ : List ℤ) (v v′ : List Float) (a a′ : List ℕ) (r : ℕ) where
+  -- a range is named: what the twelve cells give is the whole answer
+  named-is-done : (range : Range) → ((A : Type 0) (named : Range → A) (none : A) → byRange bipolar named none ≡ named range)
+      → CellsGiven (roomNumber registers m v a) (cellsOf range enabled (registersOf registers)) m m′ v v′ a a′ r
+      → CellsDone enabled bipolar registers m m′ v v′ a a′ r
+  unfolding cellsNumber cellsRead
+  named-is-done range is given =
+      subst (λ (cells : List Cell). CellsGiven (cellsNumber bipolar registers m v a) cells m m′ v v′ a a′ r)
+      (sym (is (List Cell) (λ (range : Range). cellsOf range enabled (registersOf registers)) []))
+      (subst (λ (number : ℕ). CellsGiven number (cellsOf range enabled (registersOf registers)) m m′ v v′ a a′ r)
+      (sym (is ℕ (λ (range : Range). roomNumber registers m v a) 1)) given)
+
+  pub unipolar-cells : bipolar ≡ 0 → CellsGiven (roomNumber registers m v a) (cellsOf Unipolar enabled (registersOf registers)) m m′ v v′ a a′ r
+      → CellsDone enabled bipolar registers m m′ v v′ a a′ r
+  unipolar-cells zero = named-is-done Unipolar (λ A named none. is-unipolar bipolar named none zero)
+
+  pub bipolar-cells : bipolar ≡ 1 → CellsGiven (roomNumber registers m v a) (cellsOf Bipolar enabled (registersOf registers)) m m′ v v′ a a′ r
+      → CellsDone enabled bipolar registers m m′ v v′ a a′ r
+  bipolar-cells one = named-is-done Bipolar (λ A named none. is-bipolar bipolar named none one)
+
+pub neither-cells : (enabled bipolar : ℕ) (registers : List ℕ) (m : List ℤ) (v : List Float) (a : List ℕ) → (bipolar ≡ 0 → ⊥) → (bipolar ≡ 1 → ⊥)
+    → CellsDone enabled bipolar registers m m v v a a 1
+unfolding cellsNumber
+neither-cells enabled bipolar registers m v a e f =
+    turned-away (cellsNumber bipolar registers m v a) (cellsRead enabled bipolar registers) m v a 0
+    (is-neither bipolar (λ (range : Range). roomNumber registers m v a) 1 e f)

@@ -1,1 +1,2 @@
 pub mod CellBytes
+pub mod CellsBytes

@@ -1,17 +1,14 @@
 -- The command writer over bytes (document 01, "The C side"): the answer packed into one number, and the command's words as two bytes each, low
 -- first, at the front of the lent bytes. An odd last byte counts for no room, and stays.
 use mathlib.Core.Path.{_≡_}
-use mathlib.Core.Bool.{cond}
-use mathlib.Core.List.{List, []}
+use mathlib.Core.List.{List}
 use Prim.Native.Nat.{ℕ, _+_, _*_, _/_}
-use lib.Dec.{leb}
 use lib.ListN.{length}
 use lib.Seq.{sets}
-use Rattle.lines.specs.Write.{atFront}
+use Rattle.lines.specs.Write.{atFront, leftBy}
 use Rattle.packing.specs.Words.{asBytes}
-use Rattle.questions.specs.Question.{goodQuestion}
 use Rattle.questions.specs.declared.question.Question.{Question}
-use Rattle.commands.specs.Command.{commandLine, issuedNumber}
+use Rattle.commands.specs.Command.{commandLine, issuedOf, issuedNumber}
 use Rattle.commands.specs.declared.Issued.{Issued}
 use Rattle.commands.specs.declared.Issued.the-variants as issued
 
@@ -25,24 +22,11 @@ wordsIssued issued.Room = 0
 abbrev pub packedIssued : Issued → ℕ
 packedIssued i = issuedNumber i + 65536 * wordsIssued i
 
--- the answer: QUESTION, then ROOM, two bytes a word
-unfoldable pub issuedInto : Question → (out : List ℕ) → Issued
-issuedInto q out =
-    cond (goodQuestion q)
-    (cond (leb (length (commandLine q)) (length out / 2)) (issued.Words (length (commandLine q))) issued.Room)
-    issued.Question
-
--- the words that go out: the command's, or none
-abbrev pub wordsOut : Issued → Question → List ℕ
-wordsOut (issued.Words n) q = commandLine q
-wordsOut issued.Question q = []
-wordsOut issued.Room q = []
-
 -- some bytes with some words laid from a place on
 abbrev pub laid : List ℕ → (at : ℕ) → (words : List ℕ) → List ℕ
 laid bytes at words = sets bytes at (asBytes words)
 
--- what `command_bytes` says and leaves
+-- what `command_bytes` says and leaves: two bytes of room a word
 pub record CommandBytesDone (q : Question) (before after : List ℕ) (r : ℕ) : Type 0 where
-  pub says : r ≡ packedIssued (issuedInto q before)
-  pub leaves : after ≡ atFront (asBytes (wordsOut (issuedInto q before) q)) before
+  pub says : r ≡ packedIssued (issuedOf q (length before / 2))
+  pub leaves : after ≡ leftBy (issuedNumber (issuedOf q (length before / 2))) (atFront (asBytes (commandLine q)) before) before

@@ -1,17 +1,13 @@
 -- The line that is taken is as good as the whole: what is too long to be taken is accepted by no question, so it has no part either.
-use mathlib.Core.Path.{_≡_, refl, sym, ap, _∙_}
-use mathlib.Core.Bool.{Bool, true, false, cond, _&&_}
+use mathlib.Core.Path.{_≡_, sym, ap, _∙_}
 use mathlib.Core.Logic.{⊎-elim}
 use mathlib.Core.List.{List, []}
-use Prim.Native.Nat.{ℕ, _/_, _%_, _≤_, _<_}
+use Prim.Native.Nat.{ℕ, _≤_, _<_}
 use native.Mathlib.Nat.{eq-zero-or-pos}
 use native.Mathlib.Omega.{arith}
-use lib.Dec.{eqb, leb}
 use lib.ListN.{length, take}
-use borrow.Author.Tests.{leb-false}
-use Rattle.packing.specs.Words.{wordsOf, lineIn, LineTaken}
-use Rattle.packing.proofs.Back.{length-words}
-use Rattle.packing.proofs.Taken.{line-front}
+use Rattle.packing.specs.Words.{lineOn, lineIn, LineTaken}
+use Rattle.packing.proofs.Taken.{whole-or-none, line-front}
 use Rattle.questions.proofs.Good.{words-most}
 use Rattle.questions.specs.Shape.{shapeOf}
 use Rattle.questions.specs.declared.question.Question.{Question}
@@ -43,12 +39,11 @@ module _ (q : Question) (device : ℕ) where
 
   -- so the part of what is taken is the part of the whole
   pub part-of-taken : (bytes : List ℕ) → packedStart (startOf q (lineIn 140 bytes) device) ≡ partIn q device bytes
-  unfolding lineIn partIn
-  part-of-taken bytes = ap packedStart (by-test (eqb (length bytes % 2) 0) (leb (length bytes / 2) 140) refl)
-    where
-      by-test : (t u : Bool) → leb (length bytes / 2) 140 ≡ u
-          → startOf q (cond (t && u) (wordsOf bytes) []) device ≡ startOf q (cond t (wordsOf bytes) []) device
-      by-test true true e = refl
-      by-test true false e =
-          empty-has-none ∙ sym (too-long-has-none (wordsOf bytes) (omega (arith, length-words bytes, leb-false (length bytes / 2) 140 e)))
-      by-test false u e = refl
+  unfolding partIn
+  part-of-taken bytes =
+      ap packedStart
+      (⊎-elim
+      (λ (whole : lineIn 140 bytes ≡ lineOn bytes). ap (λ (l : List ℕ). startOf q l device) whole)
+      (λ (none : (lineIn 140 bytes ≡ []) × (140 < length (lineOn bytes))).
+      ap (λ (l : List ℕ). startOf q l device) (none .0) ∙ empty-has-none ∙ sym (too-long-has-none (lineOn bytes) (none .1)))
+      (whole-or-none 140 bytes))

@@ -1,10 +1,9 @@
 -- The second call over bytes (document 01, "The C side").
 use mathlib.Core.Bool.{cond}
-use mathlib.Core.List.{List, []}
-use Prim.Native.Nat.{ℕ, _+_, _*_, _%_}
+use mathlib.Core.List.{List}
+use Prim.Native.Nat.{ℕ, _+_, _*_}
 use lib.Dec.{eqb}
-use lib.ListN.{length}
-use Rattle.packing.specs.Words.{wordsOf}
+use Rattle.packing.specs.Words.{lineOn}
 use Rattle.questions.specs.declared.question.Question.{Question}
 use Rattle.parts.specs.Part.{startOf}
 
@@ -14,4 +13,4 @@ packedStart start = cond (eqb start 0) 0 (4 + 65536 * start)
 
 -- the part of the line that carries the device's register; a line of an odd number of bytes has none
 unfoldable pub partIn : Question → (device : ℕ) → (line : List ℕ) → ℕ
-partIn q device line = packedStart (startOf q (cond (eqb (length line % 2) 0) (wordsOf line) []) device)
+partIn q device line = packedStart (startOf q (lineOn line) device)

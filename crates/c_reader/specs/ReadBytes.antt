@@ -1,24 +1,19 @@
 -- The reader over bytes (document 01, "The C side"): the reader's own definition on the words of the bytes, and its answer packed into one
 -- number.
 use mathlib.Core.Path.{_≡_}
-use mathlib.Core.Bool.{cond}
-use mathlib.Core.List.{List, []}
-use Prim.Native.Nat.{ℕ, _+_, _*_, _/_, _%_, _≤_}
-use lib.Dec.{eqb}
+use mathlib.Core.List.{List}
+use Prim.Native.Nat.{ℕ, _+_, _*_, _/_, _≤_}
 use lib.ListN.{length}
 use Rattle.lines.specs.Write.{atFront}
-use Rattle.packing.specs.Words.{wordsOf, asBytes}
+use Rattle.packing.specs.Words.{lineOn, asBytes}
 use Rattle.questions.specs.declared.question.Question.{Question}
 use Rattle.readings.specs.Reading.{numberOf, placeOf, byteOf, countOf, valuesTaken}
 use Rattle.readings.specs.declared.Reading.{Reading}
 use Rattle.judging.specs.Judge.{judgeOf}
 use Rattle.reader.specs.Read.{valuesOn}
 
--- the words of a line of bytes; an odd number of bytes is as no line at all, and so LENGTH, in LENGTH's place
-abbrev pub lineOn : (bytes : List ℕ) → List ℕ
-lineOn bytes = cond (eqb (length bytes % 2) 0) (wordsOf bytes) []
-
--- what the reader says of it: two bytes of room a value, and an odd last byte counts for none
+-- what the reader says of a line: an odd number of bytes is as no line at all, and so LENGTH, in LENGTH's place; two bytes of room a value, and
+-- an odd last byte counts for none
 unfoldable pub readingOn : Question → (line out : List ℕ) → Reading
 readingOn q line out = judgeOf q (lineOn line) (length out / 2)
 
@@ -27,7 +22,7 @@ readingOn q line out = judgeOf q (lineOn line) (length out / 2)
 abbrev pub packedReading : Reading → ℕ
 packedReading r = numberOf r + 256 * (byteOf r + countOf r) + 65536 * (placeOf r + valuesTaken r)
 
--- what a packed reading can hold: more than any answer has
+-- what packing asks of a reading: a place on a line of 140 words, and no more values than 32 devices have
 pub record Packable (r : Reading) : Type 0 where
   pub place : placeOf r ≤ 140
   pub values : valuesTaken r ≤ 32

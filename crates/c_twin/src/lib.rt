@@ -1,6 +1,7 @@
 // The twin over bytes, for the C side (document 01, "The C side"): the register memory is 512 bytes a device, two bytes a word, low first; so is
 // the line. Each call works on words of its own and stores them back.
 use packing::pack;
+use packing::store;
 use packing::take_line;
 use packing::unpack;
 use registers::power_on;
@@ -25,8 +26,8 @@ pub fn power_on_bytes(n: u8, memory: &mut [u8]) -> u32
     0
 }
 
-// One device alone: TWIN, then LENGTH for a line of an odd number of bytes or of more than 140 words, then ROOM; else the line as the device
-// hands it on at the front of the output, and its registers changed. Turned away, no byte is written.
+// One device alone: TWIN, then ROOM, then LENGTH for a line of an odd number of bytes; else the line as the device hands it on at the front of
+// the output, and its registers changed. Turned away, no byte is written.
 pub fn step_bytes(n: u8, device: u8, memory: &mut [u8], line: &[u8], out: &mut [u8]) -> u32
     ensures { λ r. ⌜ StepBytesDone n device (now (memory .entry)) (now (memory .exit)) (now (line .entry)) (now (out .entry)) (now (out .exit)) r ⌝ }
 {
@@ -36,20 +37,22 @@ pub fn step_bytes(n: u8, device: u8, memory: &mut [u8], line: &[u8], out: &mut [
     if n <= device {
         return 15;
     }
+    if out.len() / 2 < line.len() / 2 {
+        return 2;
+    }
     if line.len() % 2 != 0 {
         return 3;
     }
+    // No command has more than 140 words: such a line goes out as it came.
     if 280 < line.len() {
-        return 3;
-    }
-    if out.len() / 2 < line.len() / 2 {
-        return 2;
+        store(out, 0, line);
+        return 0;
     }
     hop_bytes(n, device, memory, line, out);
     0
 }
 
-// The step itself.
+// The step itself, of a line that may be a command.
 fn hop_bytes(n: u8, device: u8, memory: &mut [u8], line: &[u8], out: &mut [u8])
     requires { ⌜ (chainIn n (length (now memory)) ≡ true) × (device < n) × (length (now line) % 2 ≡ 0) × (length (now line) ≤ 280) × (length (now line) ≤ length (now out)) ⌝ }
     ensures { λ _. ⌜ HoppedBytes n device (now (memory .entry)) (now (memory .exit)) (now (line .entry)) (now (out .entry)) (now (out .exit)) ⌝ }

@@ -1,10 +1,10 @@
 -- One cell (document 01, "Cells"): CHANNEL comes first, then "not measured", then LOW BITS.
 use mathlib.Core.Bool.{Bool, cond, _&&_}
-use Prim.Native.Nat.{ℕ, zero, suc, _+_, _-_, _/_, _%_, _^_}
+use Prim.Native.Nat.{ℕ, _+_, _-_, _/_, _%_, _^_}
 use mathlib.Core.List.{List, [], _∷_}
-use lib.ListN.{getD}
 use lib.Dec.{eqb, leb}
 use Rattle.cells.specs.Voltage.{voltageOf}
+use Rattle.cells.specs.declared.Register.{Register}
 use Rattle.cells.specs.declared.Range.{Range}
 use Rattle.cells.specs.declared.Cell.{Cell}
 use Rattle.cells.specs.declared.Cell.the-variants.{Measured, NotMeasured, Refused}
@@ -24,13 +24,13 @@ cellOf range mask c register =
     NotMeasured)
     (Refused Channel)
 
--- Twelve cells, each by its own register: the first register is cell 1's.
-abbrev pub cellsFrom : Range → (mask : ℕ) → List ℕ → (n i : ℕ) → List Cell
-cellsFrom range mask registers zero i = []
-cellsFrom range mask registers (suc n) i = cellOf range mask (i + 1) (getD registers i 0) ∷ cellsFrom range mask registers n (i + 1)
+-- A cell for each register, the first register being cell 1's.
+abbrev pub cellsFrom : Range → (mask c : ℕ) → List Register → List Cell
+cellsFrom range mask c [] = []
+cellsFrom range mask c (register ∷ registers) = cellOf range mask c (register .0) ∷ cellsFrom range mask (c + 1) registers
 
-unfoldable pub cellsOf : Range → (mask : ℕ) → List ℕ → List Cell
-cellsOf range mask registers = cellsFrom range mask registers 12 0
+unfoldable pub cellsOf : Range → (mask : ℕ) → List Register → List Cell
+cellsOf range mask registers = cellsFrom range mask 1 registers
 
 -- The paper's numbers ("Turned away"), 0 where nothing is turned away.
 abbrev pub cellRefusalNumber : CellRefusal → ℕ

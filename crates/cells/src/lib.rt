@@ -107,12 +107,12 @@ pub fn read_cell(range: Range, mask: u16, c: u8, register: Register) -> Cell
 }
 
 // The twelve cells of a device, the first register being cell 1's.
-pub fn read_cells(range: Range, mask: u16, registers: [u16; 12]) -> [Cell; 12]
+pub fn read_cells(range: Range, mask: u16, registers: [Register; 12]) -> [Cell; 12]
     ensures { λ r. ⌜ r ≡ cellsOf range mask registers ⌝ }
 {
     let mut cells = [Cell::NotMeasured; 12];
     for i in 0..12 {
-        cells[i] = read_cell(range, mask, i as u8 + 1, Register(registers[i]));
+        cells[i] = read_cell(range, mask, i as u8 + 1, registers[i]);
     }
     cells
 }

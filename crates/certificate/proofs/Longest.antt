@@ -1,13 +1,11 @@
 -- THE LONGEST CERTIFICATE. Memory of 82,143 bytes holds the certificate of every job file: 9 bytes for the first line, 10 for each of 8,191
 -- entries, 7 for each of 32 devices.
-use mathlib.Core.Path.{_≡_, refl}
-use mathlib.Core.Bool.{Bool, true, false, cond}
+use mathlib.Core.Path.{_≡_}
+use mathlib.Core.Bool.{true}
 use mathlib.Core.List.{List, [], _∷_}
 use Prim.Native.Nat.{ℕ, zero, suc, _≤_, _<_}
 use native.Mathlib.Omega.{arith}
-use lib.Dec.{leb}
 use lib.ListN.{length, getD}
-use borrow.Author.Tests.{leb-true}
 use Rattle.readings.specs.Reading.{refusalNumber, numberOf}
 use Rattle.readings.specs.declared.Refusal.{Refusal}
 use Rattle.readings.specs.declared.Refusal.the-variants.{Question, Room, Length, Character, Frame, Manchester, Echo, Pec, Alive, Check, Count}
@@ -17,10 +15,11 @@ use Rattle.jobs.specs.Check.{headerIn, goodFile}
 use Rattle.jobs.proofs.Entries.{parts, header-most}
 use Rattle.letters.specs.Letters.{Heard}
 use Rattle.printing.proofs.Lengths.{longest}
-use Rattle.certificate.specs.declared.Certified.the-variants.{Bytes, File}
-use Rattle.certificate.specs.declared.Certified.the-variants as certified
-use Rattle.certificate.specs.Certificate.{heardIn, numbersOf, standingOf, certificateOf, certifiedOf}
+use Rattle.certificate.specs.declared.Certified.{Certified}
+use Rattle.certificate.specs.declared.Certified.the-variants.{Bytes}
+use Rattle.certificate.specs.Certificate.{heardIn, numbersOf, standingOf, certificateOf, certifiedOf, mostText}
 use Rattle.certificate.proofs.Certifying.{countable}
+use Rattle.certificate.proofs.Answered.{Answered, no-job, no-room, all, answered}
 
 -- no number of the table is above 99
 number-small : (r : Reading) → numberOf r < 100
@@ -47,7 +46,7 @@ numbers-small [] k = omega arith
 numbers-small (e ∷ es) zero = number-small (e .reading)
 numbers-small (e ∷ es) (suc k) = numbers-small es k
 
-pub fits-every-certificate : (file : List ℕ) → goodFile file ≡ true → length (certificateOf file) ≤ 82143
+pub fits-every-certificate : (file : List ℕ) → goodFile file ≡ true → length (certificateOf file) ≤ mostText
 unfolding certificateOf
 fits-every-certificate file ok =
     longest (headerIn file .n) (numbersOf (heardIn file)) (standingOf file) (omega (arith, header-most (headerIn file) (parts file ok .header)))
@@ -56,17 +55,14 @@ fits-every-certificate file ok =
 -- what is written: a good file's certificate, within the lent memory
 pub record WrittenOut (file text : List ℕ) (n : ℕ) : Type 0 where
   pub within : n ≤ length text
-  pub most : n ≤ 82143
+  pub most : n ≤ mostText
 
 pub written : (file text : List ℕ) (n : ℕ) → certifiedOf file text ≡ Bytes n → WrittenOut file text n
-unfolding certifiedOf
-written file text n =
-    by-test (goodFile file) refl (leb (length (certificateOf file)) (length text)) refl
+written file text n says = by-answer (certifiedOf file text) (answered file text) says
   where
-    by-test : (t : Bool) → goodFile file ≡ t → (u : Bool) → leb (length (certificateOf file)) (length text) ≡ u
-        → cond t (cond u (Bytes (length (certificateOf file))) certified.Room) File ≡ Bytes n → WrittenOut file text n
-    by-test true ok true fits e =
+    by-answer : (r : Certified) → Answered file text r → r ≡ Bytes n → WrittenOut file text n
+    by-answer _ (all ok fits) e =
         let is : length (certificateOf file) ≡ n = cc in
-        record { within = omega (arith, is, leb-true (length (certificateOf file)) (length text) fits); most = omega (arith, is, fits-every-certificate file ok) }
-    by-test true ok false fits e = let z : _≡_ {A = ℕ} 0 1 = cc in absurd (omega arith)
-    by-test false bad u fits e = let z : _≡_ {A = ℕ} 0 1 = cc in absurd (omega arith)
+        record { within = omega (arith, is, fits); most = omega (arith, is, fits-every-certificate file ok) }
+    by-answer _ (no-room ok over) e = let z : _≡_ {A = ℕ} 0 1 = cc in absurd (omega arith)
+    by-answer _ (no-job bad) e = let z : _≡_ {A = ℕ} 0 1 = cc in absurd (omega arith)

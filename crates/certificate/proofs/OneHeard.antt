@@ -5,7 +5,6 @@ use Prim.Native.Nat.{ℕ, _*_, _≤_}
 use native.Mathlib.Omega.{arith}
 use lib.ListN.{length, take, drop}
 use lib.Seq.{sets, take-at}
-use Rattle.ground.proofs.Sweep.{length-tabulated}
 use Rattle.ground.proofs.Lists.{sets-front}
 use Rattle.lines.specs.Write.{atFront}
 use Rattle.packing.specs.Words.{wordsOf}
@@ -14,11 +13,11 @@ use Rattle.questions.specs.declared.question.Question.{Question}
 use Rattle.readings.specs.Reading.{numberOf, valuesTaken}
 use Rattle.readings.specs.declared.Reading.{Reading}
 use Rattle.judging.specs.Judge.{judgeOf}
-use Rattle.lines.specs.Line.{bytesOf}
-use Rattle.reader.specs.Read.{valueIn, valuesOn, ReadDone}
+use Rattle.reader.specs.Read.{valuesOn, ReadDone}
+use Rattle.reader.proofs.Values.{handed-number}
 use Rattle.letters.specs.declared.Standing.{Standing}
 use Rattle.letters.specs.Letters.{hearOf}
-use Rattle.certificate.specs.declared.Heard.{Heard}
+use Rattle.certificate.specs.declared.AfterEntry.{AfterEntry}
 use Rattle.certificate.specs.Certificate.{heardAs}
 use Rattle.certificate.specs.Telling.{heardNow}
 
@@ -29,18 +28,21 @@ line-read blank bytes words even fits =
     ap (take words) (sets-front (wordsOf bytes) blank (omega (arith, number))) ∙ take-at (wordsOf bytes) (drop (length (wordsOf bytes)) blank) words number
 
 -- the values at the front of the room are those handed out
-pub values-read : (line room : List ℕ) (m : ℕ) → take m (atFront (valuesOn line m) room) ≡ valuesOn line m
-values-read line room m = take-at (valuesOn line m) (drop (length (valuesOn line m)) room) m (length-tabulated (valueIn (bytesOf line) m) m 0)
+pub values-read : (q : Question) (line room : List ℕ)
+    → take (valuesTaken (judgeOf q line 32)) (atFront (valuesOn line (valuesTaken (judgeOf q line 32))) room) ≡ valuesOn line (valuesTaken (judgeOf q line 32))
+values-read q line room =
+    let values = valuesOn line (valuesTaken (judgeOf q line 32)) in
+    take-at values (drop (length values) room) (valuesTaken (judgeOf q line 32)) (handed-number q line 32)
 
 pub heard-is : (s after : Standing) (q : Question) (line line′ room room′ : List ℕ) (reading : Reading) (taken number : ℕ)
     → line′ ≡ line → length room ≡ 32 → ReadDone q line′ room room′ reading → taken ≡ valuesTaken reading → number ≡ numberOf reading
-    → after ≡ hearOf s q reading (take taken room′) → _≡_ {A = Heard} (record { number = number; standing = after }) (heardNow s (heardAs q line))
+    → after ≡ hearOf s q reading (take taken room′) → _≡_ {A = AfterEntry} (record { number = number; standing = after }) (heardNow s (heardAs q line))
 heard-is s after q line line′ room room′ reading taken number same size done count is next =
     let says : reading ≡ judgeOf q line 32 = done .says ∙ ap₂ (λ (l : List ℕ) (n : ℕ). judgeOf q l n) same size in
     let m = valuesTaken (judgeOf q line 32) in
     let many : taken ≡ m = count ∙ ap valuesTaken says in
     let leaves : room′ ≡ atFront (valuesOn line m) room =
     done .leaves ∙ ap₂ (λ (l : List ℕ) (n : ℕ). atFront (valuesOn l (valuesTaken (judgeOf q l n))) room) same size in
-    let values : take taken room′ ≡ valuesOn line m = ap₂ take many leaves ∙ values-read line room m in
+    let values : take taken room′ ≡ valuesOn line m = ap₂ take many leaves ∙ values-read q line room in
     ap₂ (λ (n : ℕ) (t : Standing). record { number = n; standing = t }) (is ∙ ap numberOf says)
     (next ∙ ap₂ (λ (r : Reading) (v : List ℕ). hearOf s q r v) says values)

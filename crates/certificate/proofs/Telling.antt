@@ -12,14 +12,14 @@ use Rattle.jobs.specs.Check.{wordsIn, goodEntries, entriesIn, goodFile, headerI
 use Rattle.jobs.proofs.Placed.{entry-within}
 use Rattle.jobs.proofs.Entries.{first-good, good-here, entries-here, no-more-entries, parts}
 use Rattle.letters.specs.declared.Standing.{Standing}
-use Rattle.letters.specs.Letters as letters
-use Rattle.letters.specs.Letters.{heardFrom, begun}
+use Rattle.letters.specs.Letters.{Heard, heardFrom, begun}
+use Rattle.printing.specs.Print.{mostEntries}
 use Rattle.certificate.specs.declared.Told.{Told}
 use Rattle.certificate.specs.Certificate.{heardOf, heardIn, numberFor, numbersOf}
 use Rattle.certificate.specs.Telling.{heardHere, ToldOne, ToldAll}
 
 -- what is left to hear from a place on
-abbrev pub heardLeft : Header → (file : List ℕ) → (at : ℕ) → List letters.Heard
+abbrev pub heardLeft : Header → (file : List ℕ) → (at : ℕ) → List Heard
 heardLeft h file at = map (heardOf h) (entriesIn (drop at file))
 
 -- on the way: what was told, and what is left, make up the whole
@@ -27,12 +27,12 @@ pub record Going (h : Header) (file kept : List ℕ) (told : Told) : Type 0 wher
   pub passed : 7 + 8 * told .entries ≤ told .at
   pub within : told .at ≤ length file
   pub good : goodEntries h (drop (told .at) file) ≡ true
-  pub room : length kept ≡ 8191
+  pub room : length kept ≡ mostEntries
   pub numbers : take (told .entries) kept ++ numbersOf (heardLeft h file (told .at)) ≡ numbersOf (heardLeft h file 7)
   pub standing : heardFrom (told .standing) (heardLeft h file (told .at)) ≡ heardFrom begun (heardLeft h file 7)
 
 module _ (h : Header) (file : List ℕ) (ok : goodFile file ≡ true) (is : h ≡ headerIn file) where
-  pub going-first : (kept : List ℕ) (s : Standing) → length kept ≡ 8191 → s ≡ begun → Going h file kept (record { at = 7; entries = 0; standing = s })
+  pub going-first : (kept : List ℕ) (s : Standing) → length kept ≡ mostEntries → s ≡ begun → Going h file kept (record { at = 7; entries = 0; standing = s })
   going-first kept s room begins = record {
     passed = omega arith;
     within = parts file ok .long;
@@ -47,7 +47,7 @@ module _ (h : Header) (file kept kept′ : List ℕ) (told told′ : Told) (shor
   abbrev at : ℕ
   at = told .at
 
-  abbrev now-heard : letters.Heard
+  abbrev now-heard : Heard
   now-heard = heardHere h (drop at file)
 
   -- no job file has more than 8,191 entries
@@ -75,7 +75,7 @@ module _ (h : Header) (file kept kept′ : List ℕ) (told told′ : Told) (shor
         numbers =
             ap₂ (λ (l : List ℕ) (k : ℕ). l ++ numbersOf (heardLeft h file k)) more (one .at)
             ∙ append-assoc (take (told .entries) kept) (number ∷ []) (numbersOf rest)
-            ∙ ap (λ (l : List letters.Heard). take (told .entries) kept ++ numbersOf l) (sym left) ∙ going .numbers;
+            ∙ ap (λ (l : List Heard). take (told .entries) kept ++ numbersOf l) (sym left) ∙ going .numbers;
         standing =
             ap₂ (λ (s : Standing) (k : ℕ). heardFrom s (heardLeft h file k)) (one .standing) (one .at)
             ∙ ap (heardFrom (told .standing)) (sym left) ∙ going .standing;
@@ -92,7 +92,7 @@ all-told h file kept told is short over going =
     let whole : heardLeft h file 7 ≡ heardIn file = ap (λ (x : Header). heardLeft x file 7) is in
     record {
       numbers =
-          sym (append-nil (take (told .entries) kept)) ∙ ap (λ (l : List letters.Heard). take (told .entries) kept ++ numbersOf l) (sym none)
+          sym (append-nil (take (told .entries) kept)) ∙ ap (λ (l : List Heard). take (told .entries) kept ++ numbersOf l) (sym none)
           ∙ going .numbers ∙ ap numbersOf whole;
       standing = ap (heardFrom (told .standing)) (sym none) ∙ going .standing ∙ ap (heardFrom begun) whole;
       few = omega (arith, going .passed, going .within, going .room);

@@ -6,7 +6,7 @@ use mathlib.Core.List.{List, map}
 use Prim.Native.Nat.{ℕ}
 use lib.Dec.{leb}
 use lib.ListN.{length, drop}
-use Rattle.lines.specs.Write.{atFront}
+use Rattle.lines.specs.Write.{atFront, leftBy}
 use Rattle.questions.specs.declared.question.Question.{Question}
 use Rattle.readings.specs.Reading.{numberOf, valuesTaken}
 use Rattle.judging.specs.Judge.{judgeOf}
@@ -52,18 +52,21 @@ unfoldable pub certifiedOf : (file text : List ℕ) → Certified
 certifiedOf file text =
     cond (goodFile file) (cond (leb (length (certificateOf file)) (length text)) (Bytes (length (certificateOf file))) Room) File
 
--- the lent memory after the call
-unfoldable pub certificateAfter : (file text : List ℕ) → List ℕ
-certificateAfter file text =
-    cond (goodFile file) (cond (leb (length (certificateOf file)) (length text)) (atFront (certificateOf file) text) text) text
-
--- what `certify` says and leaves
-pub record CertificateDone (file before after : List ℕ) (r : Certified) : Type 0 where
-  pub says : r ≡ certifiedOf file before
-  pub leaves : after ≡ certificateAfter file before
-
 -- document 01's number of an answer
 abbrev pub certifiedNumber : Certified → ℕ
 certifiedNumber (Bytes n) = 0
 certifiedNumber File = 14
 certifiedNumber Room = 2
+
+-- the lent memory after the call
+abbrev pub textLeft : (file before : List ℕ) → List ℕ
+textLeft file before = leftBy (certifiedNumber (certifiedOf file before)) (atFront (certificateOf file) before) before
+
+-- what `certify` says and leaves
+pub record CertificateDone (file before after : List ℕ) (r : Certified) : Type 0 where
+  pub says : r ≡ certifiedOf file before
+  pub leaves : after ≡ textLeft file before
+
+-- memory of this size holds every certificate: 9 bytes for the first line, 10 for each of 8,191 entries, 7 for each of 32 devices
+abbrev pub mostText : ℕ
+mostText = 82143

@@ -6,22 +6,21 @@ use lib.ListN.{length, take, drop, set}
 use Rattle.jobs.specs.declared.Header.{Header}
 use Rattle.jobs.specs.Check.{wordsIn, entryIn}
 use Rattle.letters.specs.declared.Standing.{Standing}
-use Rattle.letters.specs.Letters.{hearOf}
-use Rattle.letters.specs.Letters as letters
+use Rattle.letters.specs.Letters.{Heard, hearOf}
 use Rattle.printing.specs.declared.Printed.{Printed}
 use Rattle.printing.specs.declared.Printed.the-variants as printed
 use Rattle.certificate.specs.declared.Certified.{Certified}
 use Rattle.certificate.specs.declared.Certified.the-variants.{Bytes, File, Room}
-use Rattle.certificate.specs.declared.Heard.{Heard}
+use Rattle.certificate.specs.declared.AfterEntry.{AfterEntry}
 use Rattle.certificate.specs.declared.Told.{Told}
 use Rattle.certificate.specs.Certificate.{heardOf, numberFor, numbersOf, heardIn, standingOf}
 
 -- the letters after an entry, and its number
-abbrev pub heardNow : Standing → letters.Heard → Heard
+abbrev pub heardNow : Standing → Heard → AfterEntry
 heardNow s e = record { number = numberFor e; standing = hearOf s (e .question) (e .reading) (e .values) }
 
 -- the entry at the front of some bytes, heard
-abbrev pub heardHere : Header → (front : List ℕ) → letters.Heard
+abbrev pub heardHere : Header → (front : List ℕ) → Heard
 heardHere h front = heardOf h (entryIn front)
 
 -- one entry more

@@ -1,6 +1,6 @@
 // The entries of a job file heard one after the other (document 01, "Job file and certificate"): the reader is asked of each, its number kept,
 // and the letters brought up to date.
-use crate::Heard;
+use crate::AfterEntry;
 use crate::Told;
 use jobs::Cursor;
 use jobs::EntryAt;
@@ -20,12 +20,13 @@ ghost use Prim.Native.Nat.{_+_, _*_, _≤_, _<_};
 ghost use lib.ListN.{length, take, drop};
 ghost use Rattle.packing.specs.Words.{wordsOf};
 ghost use Rattle.jobs.specs.Check.{goodEntries, goodFile, headerIn};
+ghost use Rattle.printing.specs.Print.{mostEntries};
 ghost use Rattle.certificate.specs.Certificate.{heardAs};
 ghost use Rattle.certificate.specs.Telling.{heardNow, ToldOne, ToldAll};
 
 // Every entry told, in order.
 pub(crate) fn tell(header: Header, file: &[u8], numbers: &mut [u8]) -> Told
-    requires { ⌜ (goodFile (now file) ≡ true) × (header ≡ headerIn (now file)) × (length (now numbers) ≡ 8191) ⌝ }
+    requires { ⌜ (goodFile (now file) ≡ true) × (header ≡ headerIn (now file)) × (length (now numbers) ≡ mostEntries) ⌝ }
     ensures { λ r. ⌜ ToldAll (now (file .entry)) (now (numbers .exit)) r ⌝ }
 {
     let mut told = Told {
@@ -60,7 +61,7 @@ fn tell_entry(header: Header, file: &[u8], numbers: &mut [u8], told: Told) -> To
 }
 
 // The reader is asked, with room for the values of 32 devices.
-fn hear_entry(file: &[u8], entry: EntryAt, standing: Standing) -> Heard
+fn hear_entry(file: &[u8], entry: EntryAt, standing: Standing) -> AfterEntry
     requires { ⌜ (entry .words ≤ 140) × (entry .start + 2 * entry .words ≤ length (now file)) ⌝ }
     ensures { λ r. ⌜ r ≡ heardNow standing (heardAs (entry .question) (wordsOf (take (2 * entry .words) (drop (entry .start) (now (file .entry)))))) ⌝ }
 {
@@ -74,7 +75,7 @@ fn hear_entry(file: &[u8], entry: EntryAt, standing: Standing) -> Heard
     let reading = read(q, &line[..words], &mut values);
     let taken = values_taken(reading);
     let after = hear(standing, q, reading, &values[..taken]);
-    Heard {
+    AfterEntry {
         number: number_of(reading),
         standing: after,
     }

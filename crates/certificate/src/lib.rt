@@ -7,13 +7,14 @@ use jobs::Header;
 use jobs::Opened;
 use jobs::open;
 use letters::Standing;
+use printing::MOST_ENTRIES;
 use printing::Printed;
 use printing::print;
 ghost use mathlib.Core.Path.{_≡_};
 ghost use mathlib.Core.Bool.{true};
 ghost use lib.ListN.{length};
 ghost use Rattle.jobs.specs.Check.{goodFile, headerIn};
-ghost use Rattle.printing.specs.Print.{PrintDone};
+ghost use Rattle.printing.specs.Print.{mostEntries, PrintDone};
 ghost use Rattle.certificate.specs.Certificate.{numbersOf, heardIn, standingOf, CertificateDone, certifiedNumber};
 ghost use Rattle.certificate.specs.Telling.{certifiedAs};
 
@@ -27,8 +28,8 @@ pub enum Certified {
 // Memory of this size holds every certificate.
 pub const MOST_TEXT: usize = 82143;
 
-// What is heard of an entry: document 01's number of the reading, and the letters after it.
-pub struct Heard {
+// What an entry comes to: document 01's number of the reading, and the letters after it.
+pub struct AfterEntry {
     pub number: u8,
     pub standing: Standing,
 }
@@ -84,9 +85,9 @@ fn print_told(header: Header, file: &[u8], text: &mut [u8]) -> Printed
     print(header.n, &numbers[..entries], standing, text)
 }
 
-// A number for each entry: a job file has 8,191 at most.
-fn blank_numbers() -> [u8; 8191]
-    ensures { λ r. ⌜ length r ≡ 8191 ⌝ }
+// A number for each entry.
+fn blank_numbers() -> [u8; MOST_ENTRIES]
+    ensures { λ r. ⌜ length r ≡ mostEntries ⌝ }
 {
-    [0; 8191]
+    [0; MOST_ENTRIES]
 }

@@ -4,7 +4,6 @@ use Rattle.ground.specs.Agree.{Settled}
 use Rattle.characters.proofs.word_of.Reads as word-of
 use Rattle.characters.proofs.true_bits.Reads as true-bits
 use Rattle.characters.proofs.is_nibble.Reads as is-nibble
-use Rattle.characters.proofs.nibble_of.Reads as nibble-of
 
 pub word-of-settled : Settled word-of.Post
 word-of-settled l given r r′ left left′ p q = p ∙ sym q
@@ -14,6 +13,3 @@ true-bits-settled l given r r′ left left′ p q = p ∙ sym q
 
 pub is-nibble-settled : Settled is-nibble.Post
 is-nibble-settled l given r r′ left left′ p q = p ∙ sym q
-
-pub nibble-of-settled : Settled nibble-of.Post
-nibble-of-settled l given r r′ left left′ p q = p ∙ sym q

@@ -1,6 +1,6 @@
--- Laws of nibbles and their words: decoding inverts encoding, and two nibbles' words differ in twice as many bits as the nibbles.
+-- Laws of nibbles and their words: the true bits of a nibble's word are the nibble, and two nibbles' words differ in twice as many bits as the nibbles.
 use mathlib.Core.Path.{_≡_, refl, sym, ap, _∙_}
-use mathlib.Core.Bool.{Bool, true, false, cond, _&&_, true≢false}
+use mathlib.Core.Bool.{Bool, true, false}
 use Prim.Native.Nat.{ℕ, zero, suc, _+_, _*_, _/_, _^_, _<_, _≤_}
 use native.Mathlib.Nat.{mod-lt, zero-lt-suc}
 use native.Mathlib.Omega.{arith}
@@ -9,12 +9,10 @@ use lib.Count.{ones, onesIn}
 use lib.Dec.{eqb}
 use borrow.Author.Tests.{eqb-true, eq-eqb}
 use Rattle.ground.specs.Sweep.{every}
-use Rattle.ground.proofs.Test.{and-left, and-right, refuted}
-use Rattle.ground.proofs.Sweep.{swept}
+use Rattle.ground.proofs.Test.{refuted, same-way}
+use Rattle.ground.proofs.Sweep.{swept, found, passes}
 use Rattle.characters.specs.Character.{bit, parityBit, wordOf, preamble, stop}
-use Rattle.characters.specs.Nibble.{followed, nibbleData, nibbleWord, among, decode, isOne, isNibble, trueBits}
-use Rattle.characters.specs.declared.Decoded.{Decoded}
-use Rattle.characters.specs.declared.Decoded.the-variants.{Nibble, Nothing}
+use Rattle.characters.specs.Nibble.{followed, nibbleData, nibbleWord, isNibble, trueBits}
 
 -- the framing characters carry the data that the document names
 preamble-word : preamble ≡ wordOf 0x15
@@ -31,64 +29,32 @@ true-bits-lt w = omega arith
 -- ---- encoding, then decoding: one test of the sixteen nibbles
 
 sound : ℕ → Bool
-sound n = eqb (trueBits (nibbleWord n)) n && isNibble (nibbleWord n)
+sound n = eqb (trueBits (nibbleWord n)) n
 
 all-sound : every sound 16 ≡ true
-unfolding sound nibbleWord wordOf isNibble decode
+unfolding sound nibbleWord wordOf
 all-sound = refl
 
 pub true-bits-of : (n : ℕ) → n < 16 → trueBits (nibbleWord n) ≡ n
 unfolding sound
-true-bits-of n h = eqb-true (trueBits (nibbleWord n)) n (and-left _ _ (swept sound 16 all-sound n h))
+true-bits-of n h = eqb-true (trueBits (nibbleWord n)) n (swept sound 16 all-sound n h)
 
 pub nibble-nibble : (n : ℕ) → n < 16 → isNibble (nibbleWord n) ≡ true
-unfolding sound
-nibble-nibble n h = and-right (eqb (trueBits (nibbleWord n)) n) _ (swept sound 16 all-sound n h)
+unfolding isNibble
+nibble-nibble n h = passes (λ m. eqb (nibbleWord n) (nibbleWord m)) 16 n h (eq-eqb (nibbleWord n) (nibbleWord n) refl)
 
 -- ---- decoding, then encoding
 
--- the nibble that is found is below the bound, and the word is its word
-found : (k w n : ℕ) → among k w ≡ Nibble n → (n < k) × (w ≡ nibbleWord n)
-found zero w n e = absurd (let z : _≡_ {A = ℕ} 0 1 = cc in omega arith)
-found (suc k) w n e = by-test (eqb w (nibbleWord k)) (found k w n) refl e
-  where
-    by-test : (t : Bool) → (among k w ≡ Nibble n → (n < k) × (w ≡ nibbleWord n)) → eqb w (nibbleWord k) ≡ t
-        → cond t (Nibble k) (among k w) ≡ Nibble n → (n < suc k) × (w ≡ nibbleWord n)
-    by-test true lower q e =
-        let same : k ≡ n = cc in
-        (omega arith, eqb-true w (nibbleWord k) q ∙ ap nibbleWord same)
-    by-test false lower q e = let at = lower e in (omega arith, at .1)
-
--- the nibble of a word is its true bits, where their word is this one
-decode-is : (w : ℕ) → decode w ≡ cond (eqb (nibbleWord (trueBits w)) w) (Nibble (trueBits w)) Nothing
-unfolding decode isNibble
-decode-is w = by-answer (among 16 w) refl
-  where
-    by-answer : (d : Decoded) → among 16 w ≡ d → d ≡ cond (eqb (nibbleWord (trueBits w)) w) (Nibble (trueBits w)) Nothing
-    by-answer (Nibble n) e =
-        let at = found 16 w n e in
-        let low : trueBits w ≡ n = ap trueBits (at .1) ∙ true-bits-of n (at .0) in
-        ap Nibble (sym low)
-        ∙ sym (ap (λ (t : Bool). cond t (Nibble (trueBits w)) Nothing) (eq-eqb (nibbleWord (trueBits w)) w (ap nibbleWord low ∙ sym (at .1))))
-    by-answer Nothing e = by-test (eqb (nibbleWord (trueBits w)) w) refl
-      where
-        by-test : (t : Bool) → eqb (nibbleWord (trueBits w)) w ≡ t → Nothing ≡ cond t (Nibble (trueBits w)) Nothing
-        by-test true q =
-            absurd (true≢false (sym (nibble-nibble (trueBits w) (true-bits-lt w))
-            ∙ ap isNibble (eqb-true (nibbleWord (trueBits w)) w q) ∙ ap isOne e))
-        by-test false q = refl
-
+-- a word is a nibble's where it is the word of its own true bits
 pub is-nibble-is : (w : ℕ) → isNibble w ≡ eqb (nibbleWord (trueBits w)) w
 unfolding isNibble
-is-nibble-is w = ap isOne (decode-is w) ∙ is-test (eqb (nibbleWord (trueBits w)) w)
+is-nibble-is w =
+    same-way (isNibble w) (eqb (nibbleWord (trueBits w)) w)
+    (λ e. found (λ n. eqb w (nibbleWord n)) 16 e (λ n h is. eq-eqb (nibbleWord (trueBits w)) w (own n h (eqb-true w (nibbleWord n) is))))
+    (λ e. passes (λ n. eqb w (nibbleWord n)) 16 (trueBits w) (true-bits-lt w) (eq-eqb w (nibbleWord (trueBits w)) (sym (eqb-true (nibbleWord (trueBits w)) w e))))
   where
-    is-test : (t : Bool) → isOne (cond t (Nibble (trueBits w)) Nothing) ≡ t
-    is-test true = refl
-    is-test false = refl
-
--- the nibble found is the word's true bits
-pub decode-found : (w : ℕ) (t : Bool) → isNibble w ≡ t → decode w ≡ cond t (Nibble (trueBits w)) Nothing
-decode-found w t e = decode-is w ∙ ap (λ (t : Bool). cond t (Nibble (trueBits w)) Nothing) (sym (is-nibble-is w) ∙ e)
+    own : (n : ℕ) → n < 16 → w ≡ nibbleWord n → nibbleWord (trueBits w) ≡ w
+    own n h is = ap nibbleWord (ap trueBits is ∙ true-bits-of n h) ∙ sym is
 
 -- a nibble's word is the word of its true bits
 pub nibble-word : (w : ℕ) → isNibble w ≡ true → w ≡ nibbleWord (trueBits w)

@@ -1,10 +1,9 @@
 -- The character of a nibble (document 01, "The line"): each bit is followed by its complement, lowest bit first.
-use mathlib.Core.Bool.{Bool, true, false, cond}
-use Prim.Native.Nat.{ℕ, zero, suc, _+_, _-_, _*_}
+use mathlib.Core.Bool.{Bool}
+use Prim.Native.Nat.{ℕ, _+_, _-_, _*_}
 use lib.Dec.{eqb}
+use Rattle.ground.specs.Sweep.{some}
 use Rattle.characters.specs.Character.{bit, wordOf}
-use Rattle.characters.specs.declared.Decoded.{Decoded}
-use Rattle.characters.specs.declared.Decoded.the-variants.{Nibble, Nothing}
 
 -- a bit, and its complement in the place after it
 abbrev pub followed : ℕ → ℕ
@@ -18,22 +17,9 @@ nibbleData n = followed (bit 0 n) + 4 * followed (bit 1 n) + 16 * followed (bit 
 unfoldable pub nibbleWord : ℕ → ℕ
 nibbleWord n = wordOf (nibbleData n)
 
--- the nibble below n whose word this is, or nothing
-abbrev pub among : ℕ → ℕ → Decoded
-among zero w = Nothing
-among (suc n) w = cond (eqb w (nibbleWord n)) (Nibble n) (among n w)
-
--- the nibble whose word this is, or nothing
-unfoldable pub decode : ℕ → Decoded
-decode w = among 16 w
-
-abbrev pub isOne : Decoded → Bool
-isOne (Nibble n) = true
-isOne Nothing = false
-
--- row 6, MANCHESTER, is given where this is false between the ends
+-- the word of some nibble; row 6, MANCHESTER, is given where a word between the ends is none
 unfoldable pub isNibble : ℕ → Bool
-isNibble w = isOne (decode w)
+isNibble w = some (λ n. eqb w (nibbleWord n)) 16
 
 -- The data bits of any word that are no complements. Of a nibble's word they are the nibble.
 abbrev pub trueBits : ℕ → ℕ

@@ -1,17 +1,11 @@
 // One character of the line, a word of 16 bits (document 01, "The line"; data sheet 004, Table 20).
 ghost use mathlib.Core.Path.{_≡_};
-ghost use Rattle.characters.specs.Nibble.{nibbleWord, trueBits, decode, isNibble};
+ghost use Rattle.characters.specs.Nibble.{nibbleWord, trueBits, isNibble};
 
 // The preamble carries data 15h, the stop character 54h.
 pub const PREAMBLE: u16 = 0xE2A;
 
 pub const STOP: u16 = 0xEA8;
-
-// What a word stands for between preamble and stop.
-pub enum Decoded {
-    Nibble(u8),
-    Nothing,
-}
 
 // The word of a nibble, taken from the four lowest bits of n: each of them at a data bit of its own, and its complement in the next. Nibble 0
 // has D54h, and each bit that is set moves a one down by one place.
@@ -42,15 +36,4 @@ pub fn is_nibble(w: u16) -> bool
         return false;
     }
     (w ^ (w / 2)) & 0xAA == 0xAA
-}
-
-// The nibble whose word this is, or nothing.
-pub fn nibble_of(w: u16) -> Decoded
-    ensures { λ r. ⌜ r ≡ decode w ⌝ }
-{
-    if is_nibble(w) {
-        Decoded::Nibble(true_bits(w))
-    } else {
-        Decoded::Nothing
-    }
 }

@@ -1,6 +1,5 @@
 -- Fill pairs stored behind the line of some bytes, from its stop character on: the line of the bytes and the pairs.
 use mathlib.Core.Path.{_≡_, refl, sym, ap, _∙_}
-use mathlib.Core.Bool.{Bool, cond}
 use mathlib.Core.List.{List, [], _∷_, _++_}
 use Prim.Native.Nat.{ℕ, zero, suc, _+_, _*_, _≤_, _<_}
 use native.Mathlib.Nat.{add-zero}
@@ -8,17 +7,16 @@ use native.Mathlib.Numerals.{add-one}
 use native.Mathlib.Omega.{arith}
 use lib.ListN.{length, set, length-append}
 use lib.Seq.{sets, set-set}
-use borrow.Author.Tests.{le-leb}
 use Rattle.ground.proofs.Lists.{sets-append}
 use Rattle.characters.specs.Character.{preamble, stop}
 use Rattle.characters.specs.Nibble.{nibbleWord}
 use Rattle.lines.specs.Line.{charactersOf, lineOf}
 use Rattle.lines.specs.Write.{atFront}
 use Rattle.lines.proofs.Line.{length-characters, length-line}
-use Rattle.writing.specs.PutLine.{outOf, LinePut}
+use Rattle.writing.specs.PutLine.{LinePut}
 use Rattle.writing.specs.declared.Put.{Put}
 use Rattle.writing.specs.declared.Put.the-variants.{Words, NoRoom}
-use Rattle.writing.proofs.Stored.{characters-append, stored-all, refused, written}
+use Rattle.writing.proofs.Stored.{characters-append, stored-all, refused, put-whole, written}
 use Rattle.questions.specs.Bytes.{fillPairs}
 use Rattle.questions.proofs.Bytes.{length-pairs}
 
@@ -77,10 +75,7 @@ module _ (head out : List ℕ) (n : ℕ) where
 
   -- where there is room for the whole line there is room for that of the bytes alone
   line-first : (mid : List ℕ) (p : Put) → end head n < length out → LinePut head out mid p → mid ≡ atFront (lineOf head) out
-  unfolding outOf
-  line-first mid p h put =
-      put .leaves
-      ∙ ap (λ (t : Bool). cond t (atFront (lineOf head) out) out) (le-leb (length (lineOf head)) (length out) (omega (arith, length-line head)))
+  line-first mid p h put = put .leaves ∙ put-whole head out (omega (arith, length-line head))
 
   pub filled-written : (mid after : List ℕ) (p : Put) → end head n < length out → LinePut head out mid p
       → after ≡ set (sets mid (start head) (charactersOf (fillPairs n))) (end head n) stop → LinePut (head ++ fillPairs n) out after (Words (end head n + 1))

@@ -1,23 +1,24 @@
 -- What both writers lay out first, with the fill pairs behind it, is the command: three places of HELLOALL, five or six of a write, four or
 -- five of a read.
 use mathlib.Core.Path.{_≡_, refl, sym, ap, ap₂, _∙_}
-use mathlib.Core.Bool.{true}
+use mathlib.Core.Bool.{Bool, true, false, cond}
 use mathlib.Core.List.{List, [], _∷_, _++_, append-nil}
 use Prim.Native.Nat.{ℕ, zero, suc, _+_, _/_, _%_, _≤_, _<_}
 use native.Mathlib.Nat.{mod-eq-of-lt}
 use native.Mathlib.Omega.{arith}
+use lib.Dec.{eqb}
 use lib.ListN.{length, take}
 use lib.Seq.{length-take-le}
 use Rattle.pec.specs.Pec.{pecOf}
 use Rattle.questions.specs.Question.{goodQuestion}
 use Rattle.questions.specs.Shape.{shapeOf}
-use Rattle.questions.specs.Bytes.{lowHigh, aliveByte, sealed, fillPairs, commandBytes}
+use Rattle.questions.specs.Bytes.{lowHigh, sealed, fillPairs, commandBytes}
 use Rattle.questions.specs.declared.question.Question.{Question}
 use Rattle.questions.specs.declared.question.Shape.{Shape}
 use Rattle.questions.proofs.ByKind.{of-hello, of-write, of-read}
-use Rattle.questions.proofs.Good.{good-alive, good-first, hello-shape, write-shape}
-use Rattle.questions.proofs.Bytes.{alive-on, alive-off, hello-command, write-command, read-command}
-use Rattle.commands.specs.Head.{helloHead, writeHead, readHead, headOf}
+use Rattle.questions.proofs.Good.{good-first, hello-shape, write-shape}
+use Rattle.questions.proofs.Bytes.{hello-command, write-command, read-command}
+use Rattle.commands.specs.Head.{withAlive, helloHead, writeHead, readHead, headOf}
 use Rattle.commands.specs.declared.Head.{Head}
 
 -- ---- by form
@@ -43,43 +44,47 @@ module _ (q : Question) (s : Shape) (shape : s ≡ shapeOf q) where
 
 -- ---- the places taken
 
-module _ (q : Question) (first : ℕ) where
+module _ (q : Question) (first : ℕ) (small : q .seed < 256) where
+  seed-is : q .seed ≡ (q .seed + 0) % 256
+  seed-is = omega arith
+
   -- a write: the first five or six
-  write-taken : q .alive ≤ 1 → q .seed < 256 → take (5 + q .alive) (writeHead first q .bytes) ≡ sealed q 0 (first ∷ q .reg ∷ lowHigh (q .value))
+  write-taken : take (withAlive q 5) (writeHead first q .bytes) ≡ sealed q 0 (first ∷ q .reg ∷ lowHigh (q .value))
   unfolding sealed
-  write-taken h small = by-alive (q .alive) refl
+  write-taken = by-alive (eqb (q .alive) 1)
     where
       front : List ℕ → List ℕ
       front l = first ∷ q .reg ∷ q .value % 256 ∷ q .value / 256 ∷ pecOf (first ∷ q .reg ∷ lowHigh (q .value)) ∷ l
 
-      by-alive : (a : ℕ) → q .alive ≡ a → take (5 + q .alive) (front (q .seed ∷ [])) ≡ front (aliveByte q 0)
-      by-alive zero a = ap (λ (k : ℕ). take (5 + k) (front (q .seed ∷ []))) a ∙ ap front (sym (alive-off q 0 a))
-      by-alive (suc zero) a = ap (λ (k : ℕ). take (5 + k) (front (q .seed ∷ []))) a ∙ ap front (sym (alive-on q a small))
-      by-alive (suc (suc k)) a = absurd (omega arith)
+      by-alive : (on : Bool) → take (cond on (5 + 1) 5) (front (q .seed ∷ [])) ≡ front (cond on ((q .seed + 0) % 256 ∷ []) [])
+      by-alive true = ap (λ (s : ℕ). front (s ∷ [])) seed-is
+      by-alive false = refl
 
   -- a read: the first four or five
-  read-taken : q .alive ≤ 1 → q .seed < 256 → take (4 + q .alive) (readHead first q .bytes) ≡ sealed q 0 (first ∷ q .reg ∷ 0 ∷ [])
+  read-taken : take (withAlive q 4) (readHead first q .bytes) ≡ sealed q 0 (first ∷ q .reg ∷ 0 ∷ [])
   unfolding sealed
-  read-taken h small = by-alive (q .alive) refl
+  read-taken = by-alive (eqb (q .alive) 1)
     where
       front : List ℕ → List ℕ
       front l = first ∷ q .reg ∷ 0 ∷ pecOf (first ∷ q .reg ∷ 0 ∷ []) ∷ l
 
-      by-alive : (a : ℕ) → q .alive ≡ a → take (4 + q .alive) (front (q .seed ∷ 0 ∷ [])) ≡ front (aliveByte q 0)
-      by-alive zero a = ap (λ (k : ℕ). take (4 + k) (front (q .seed ∷ 0 ∷ []))) a ∙ ap front (sym (alive-off q 0 a))
-      by-alive (suc zero) a = ap (λ (k : ℕ). take (4 + k) (front (q .seed ∷ 0 ∷ []))) a ∙ ap front (sym (alive-on q a small))
-      by-alive (suc (suc k)) a = absurd (omega arith)
+      by-alive : (on : Bool) → take (cond on (4 + 1) 4) (front (q .seed ∷ 0 ∷ [])) ≡ front (cond on ((q .seed + 0) % 256 ∷ []) [])
+      by-alive true = ap (λ (s : ℕ). front (s ∷ [])) seed-is
+      by-alive false = refl
 
--- ---- the command of a good question
+-- ---- the six places are enough, of any question
 
-module _ (q : Question) (good : goodQuestion q ≡ true) where
-  -- no more than there are places
+module _ (q : Question) where
+  one-more : (on : Bool) (places : ℕ) → cond on (places + 1) places ≤ places + 1
+  one-more true places = omega arith
+  one-more false places = omega arith
+
   head-most : headOf q .count ≤ 6
   head-most =
       by-form (q .kind)
       (λ e. omega (arith, ap (λ (h : Head). h .count) (hello-head q (shapeOf q) refl e)))
-      (λ lo hi. omega (arith, ap (λ (h : Head). h .count) (write-head q (shapeOf q) refl lo hi), good-alive q good))
-      (λ lo. omega (arith, ap (λ (h : Head). h .count) (read-head q (shapeOf q) refl lo), good-alive q good))
+      (λ lo hi. omega (arith, ap (λ (h : Head). h .count) (write-head q (shapeOf q) refl lo hi), one-more (eqb (q .alive) 1) 5))
+      (λ lo. omega (arith, ap (λ (h : Head). h .count) (read-head q (shapeOf q) refl lo), one-more (eqb (q .alive) 1) 4))
 
   head-places : length (headOf q .bytes) ≡ 6
   head-places =
@@ -97,6 +102,9 @@ module _ (q : Question) (good : goodQuestion q ≡ true) where
   pub head-short : (h : Head) → h ≡ headOf q → length (take (h .count) (h .bytes)) ≤ 6
   head-short h e = omega (arith, head-length h e, ap (λ (h : Head). h .count) e, head-most)
 
+-- ---- the command of a good question
+
+module _ (q : Question) (good : goodQuestion q ≡ true) where
   first-is : shapeOf q .first % 256 ≡ shapeOf q .first
   first-is = mod-eq-of-lt (good-first q good)
 
@@ -111,14 +119,14 @@ module _ (q : Question) (good : goodQuestion q ≡ true) where
     unfolding fillPairs
     taken-write lo hi =
         ap₂ (λ (h : Head) (k : ℕ). take (h .count) (h .bytes) ++ fillPairs k) (sym (write-head q (shapeOf q) refl lo hi)) (write-shape q lo hi .values)
-        ∙ append-nil (take (5 + q .alive) (writeHead (shapeOf q .first % 256) q .bytes))
-        ∙ write-taken q (shapeOf q .first % 256) (good-alive q good) small
+        ∙ append-nil (take (withAlive q 5) (writeHead (shapeOf q .first % 256) q .bytes))
+        ∙ write-taken q (shapeOf q .first % 256) small
         ∙ ap (λ (x : ℕ). sealed q 0 (x ∷ q .reg ∷ lowHigh (q .value))) first-is ∙ sym (write-command q lo hi)
 
     taken-read : 3 ≤ q .kind → take (headOf q .count) (headOf q .bytes) ++ fillPairs (shapeOf q .values) ≡ commandBytes q
     taken-read lo =
         ap (λ (h : Head). take (h .count) (h .bytes) ++ fillPairs (shapeOf q .values)) (sym (read-head q (shapeOf q) refl lo))
-        ∙ ap (λ (l : List ℕ). l ++ fillPairs (shapeOf q .values)) (read-taken q (shapeOf q .first % 256) (good-alive q good) small)
+        ∙ ap (λ (l : List ℕ). l ++ fillPairs (shapeOf q .values)) (read-taken q (shapeOf q .first % 256) small)
         ∙ ap (λ (x : ℕ). sealed q 0 (x ∷ q .reg ∷ 0 ∷ []) ++ fillPairs (shapeOf q .values)) first-is ∙ sym (read-command q lo)
 
     pub head-taken : (h : Head) (s : Shape) → h ≡ headOf q → s ≡ shapeOf q → take (h .count) (h .bytes) ++ fillPairs (s .values) ≡ commandBytes q

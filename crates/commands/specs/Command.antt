@@ -7,7 +7,7 @@ use Prim.Native.Nat.{ℕ}
 use lib.Dec.{leb}
 use lib.ListN.{length}
 use Rattle.lines.specs.Line.{lineOf}
-use Rattle.lines.specs.Write.{atFront}
+use Rattle.lines.specs.Write.{atFront, leftBy}
 use Rattle.writing.specs.declared.Put.{Put}
 use Rattle.writing.specs.declared.Put.the-variants as put
 use Rattle.questions.specs.Question.{goodQuestion}
@@ -20,28 +20,23 @@ use Rattle.commands.specs.declared.Issued.the-variants as issued
 abbrev pub commandLine : Question → List ℕ
 commandLine q = lineOf (commandBytes q)
 
--- the answer
-unfoldable pub issuedOf : Question → (out : List ℕ) → Issued
-issuedOf q out =
+-- the answer, where so many words are lent
+unfoldable pub issuedOf : Question → (room : ℕ) → Issued
+issuedOf q room =
     cond (goodQuestion q)
-    (cond (leb (length (commandLine q)) (length out)) (issued.Words (length (commandLine q))) issued.Room)
+    (cond (leb (length (commandLine q)) room) (issued.Words (length (commandLine q))) issued.Room)
     issued.Question
-
--- the lent words after the call
-unfoldable pub commandOut : Question → (out : List ℕ) → List ℕ
-commandOut q out =
-    cond (goodQuestion q) (cond (leb (length (commandLine q)) (length out)) (atFront (commandLine q) out) out) out
-
--- what `write_command` says and leaves
-pub record CommandPut (q : Question) (before after : List ℕ) (r : Issued) : Type 0 where
-  pub says : r ≡ issuedOf q before
-  pub leaves : after ≡ commandOut q before
 
 -- document 01's number for each answer: 0 where the command was written, 1 QUESTION, 2 ROOM
 abbrev pub issuedNumber : Issued → ℕ
 issuedNumber (issued.Words n) = 0
 issuedNumber issued.Question = 1
 issuedNumber issued.Room = 2
+
+-- what `write_command` says and leaves
+pub record CommandPut (q : Question) (before after : List ℕ) (r : Issued) : Type 0 where
+  pub says : r ≡ issuedOf q (length before)
+  pub leaves : after ≡ leftBy (issuedNumber (issuedOf q (length before))) (atFront (commandLine q) before) before
 
 -- a line put, or no room for it, said as the command writer's answer
 abbrev pub issuedAs : Put → Issued

@@ -19,7 +19,7 @@ ghost use Rattle.lines.specs.Line.{charactersOf};
 ghost use Rattle.writing.specs.PutLine.{LinePut};
 ghost use Rattle.questions.specs.Bytes.{fillPairs};
 ghost use Rattle.commands.specs.Command.{CommandPut, issuedNumber, issuedAs};
-ghost use Rattle.commands.specs.Head.{headOf, writeHead, readHead};
+ghost use Rattle.commands.specs.Head.{withAlive, headOf, writeHead, readHead};
 
 // How many words the command has, or which row turned the call away.
 pub enum Issued {
@@ -77,7 +77,7 @@ fn write_head(first: u8, q: Question) -> Head
     let seed = q.seed;
     Head {
         bytes: [first, reg, low, high, check, seed],
-        count: 5 + q.alive as usize,
+        count: with_alive(q, 5),
     }
 }
 
@@ -89,8 +89,19 @@ fn read_head(first: u8, q: Question) -> Head
     let seed = q.seed;
     Head {
         bytes: [first, reg, 0, check, seed, 0],
-        count: 4 + q.alive as usize,
+        count: with_alive(q, 4),
     }
+}
+
+// So many places, and the alive byte's where the bench has it on.
+fn with_alive(q: Question, places: usize) -> usize
+    requires { ⌜ places ≤ 5 ⌝ }
+    ensures { λ r. ⌜ r ≡ withAlive q places ⌝ }
+{
+    if q.alive == 1 {
+        return places + 1;
+    }
+    places
 }
 
 // Document 01's number of an answer: 0 where the command was written.

@@ -1,3 +1,3 @@
 pub mod RowLaws
-pub mod Unless
+pub mod Asked
 pub mod Agree

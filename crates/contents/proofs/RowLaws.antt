@@ -3,19 +3,19 @@ use mathlib.Core.Path.{_≡_, sym, ap, ap₂, _∙_}
 use mathlib.Core.Bool.{Bool, true, false, cond, _&&_}
 use mathlib.Core.Logic.{⊎-elim}
 use mathlib.Core.List.{List}
-use Prim.Native.Nat.{ℕ, _+_, _-_, _%_, _≤_, _<_}
+use Prim.Native.Nat.{ℕ, zero, suc, _+_, _*_, _%_, _≤_, _<_}
 use native.Mathlib.Nat.{eq-zero-or-pos}
 use native.Mathlib.Omega.{arith}
 use lib.Dec.{eqb, leb}
-use borrow.Author.Tests.{eq-eqb, ne-eqb, le-leb, lt-leb}
+use borrow.Author.Tests.{eq-eqb, ne-eqb}
 use Rattle.ground.proofs.Test.{below-or-not}
 use Rattle.questions.specs.Question.{byForm}
 use Rattle.questions.specs.Shape.{shapeOf}
 use Rattle.questions.specs.declared.question.Question.{Question}
 use Rattle.questions.proofs.ByKind.{of-hello, of-write, of-read}
-use Rattle.contents.specs.Rows.{byteIn, valueEchoed, echoed, pecHeld, pecRight, aliveHeld, aliveRight, checkByte, settledCount, settled}
-use Rattle.readings.specs.declared.Refusal.the-variants.{Count}
-use Rattle.readings.specs.declared.Reading.the-variants.{Counted, Written, Values, Refused}
+use Rattle.contents.specs.Rows.{byteIn, valueEchoed, echoed, pecHeld, pecRight, aliveHeld, aliveRight, checkByte, countRight, takenOf}
+use Rattle.readings.specs.declared.Reading.{Reading}
+use Rattle.readings.specs.declared.Reading.the-variants.{Counted, Written, Values}
 
 pub positive : (k : ℕ) → (k ≡ 0 → ⊥) → 1 ≤ k
 positive k h = omega arith
@@ -95,32 +95,42 @@ module _ (q : Question) (bytes : List ℕ) where
   no-check hi =
       ⊎-elim (λ e. sym (of-hello (q .kind) _ _ _ e)) (λ lo. sym (of-write (q .kind) _ _ _ lo hi)) (eq-zero-or-pos (q .kind))
 
-  pub read-check : 3 ≤ q .kind → byteIn bytes (shapeOf q .covered - 1) ≡ checkByte q bytes
+  pub read-check : 3 ≤ q .kind → byteIn bytes (2 + 2 * shapeOf q .values) ≡ checkByte q bytes
   unfolding checkByte
   read-check lo = sym (of-read (q .kind) _ _ _ lo)
 
-  -- ---- 11 COUNT, and what is taken
+  -- ---- 11 COUNT
 
-  pub hello-settled : q .kind ≡ 0 → settledCount (byteIn bytes 2) ≡ settled q bytes
-  unfolding settled
-  hello-settled e = sym (of-hello (q .kind) _ _ _ e)
+  pub no-count : 1 ≤ q .kind → true ≡ countRight q bytes
+  unfolding countRight
+  no-count lo = sym (twice _ true lo)
 
-  pub write-settled : 1 ≤ q .kind → q .kind ≤ 2 → Written ≡ settled q bytes
-  unfolding settled
-  write-settled lo hi = sym (of-write (q .kind) _ _ _ lo hi)
+  pub hello-count : q .kind ≡ 0 → (leb 1 (byteIn bytes 2) && leb (byteIn bytes 2) 32) ≡ countRight q bytes
+  unfolding countRight
+  hello-count e = sym (of-hello (q .kind) _ _ _ e)
 
-  pub read-settled : 3 ≤ q .kind → Values (shapeOf q .values) ≡ settled q bytes
-  unfolding settled
-  read-settled lo = sym (of-read (q .kind) _ _ _ lo)
+  -- ---- what is taken
 
-pub count-low : (b : ℕ) → b < 1 → Refused (Count b) ≡ settledCount b
-unfolding settledCount
-count-low b h = sym (ap (λ (t : Bool). cond (t && leb b 32) (Counted b) (Refused (Count b))) (lt-leb 1 b h))
+  pub hello-taken : q .kind ≡ 0 → Counted (byteIn bytes 2) ≡ takenOf q bytes
+  unfolding takenOf
+  hello-taken e = sym (of-hello (q .kind) _ _ _ e)
 
-pub count-high : (b : ℕ) → 1 ≤ b → 32 < b → Refused (Count b) ≡ settledCount b
-unfolding settledCount
-count-high b lo hi = sym (ap₂ (λ (s t : Bool). cond (s && t) (Counted b) (Refused (Count b))) (le-leb 1 b lo) (lt-leb b 32 hi))
+  pub write-taken : 1 ≤ q .kind → q .kind ≤ 2 → Written ≡ takenOf q bytes
+  unfolding takenOf
+  write-taken lo hi = sym (of-write (q .kind) _ _ _ lo hi)
 
-pub count-right : (b : ℕ) → 1 ≤ b → b ≤ 32 → Counted b ≡ settledCount b
-unfolding settledCount
-count-right b lo hi = sym (ap₂ (λ (s t : Bool). cond (s && t) (Counted b) (Refused (Count b))) (le-leb 1 b lo) (le-leb b 32 hi))
+  pub read-taken : 3 ≤ q .kind → Values (shapeOf q .values) ≡ takenOf q bytes
+  unfolding takenOf
+  read-taken lo = sym (of-read (q .kind) _ _ _ lo)
+
+  -- what is nothing of an accepted reading is nothing of this one
+  pub taken-zero : (f : Reading → ℕ) → ((n : ℕ) → f (Counted n) ≡ 0) → f Written ≡ 0 → ((m : ℕ) → f (Values m) ≡ 0) → f (takenOf q bytes) ≡ 0
+  unfolding takenOf
+  taken-zero f counted written values = by-kind (q .kind)
+    where
+      by-kind : (k : ℕ) → f (byForm k (Counted (byteIn bytes 2)) Written (Values (shapeOf q .values))) ≡ 0
+      by-kind zero = counted (byteIn bytes 2)
+      by-kind (suc zero) = written
+      by-kind (suc (suc zero)) = written
+      by-kind (suc (suc (suc zero))) = values (shapeOf q .values)
+      by-kind (suc (suc (suc (suc k)))) = values (shapeOf q .values)

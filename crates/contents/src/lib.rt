@@ -6,20 +6,14 @@ use questions::question::WRITEDEVICE;
 use questions::question::shape_of;
 use readings::Reading;
 use readings::Refusal;
+use slices::byte_or_zero;
 use std::num::wrapping_add_u8;
 ghost use mathlib.Core.Path.{_≡_};
 ghost use lib.ListN.{take};
 ghost use Rattle.pec.specs.Pec.{pecOf};
 ghost use Rattle.questions.specs.Shape.{shapeOf};
-ghost use Rattle.contents.specs.Rows.{byteIn, echoed, valueEchoed, pecRight, aliveRight, checkByte, settled, settledCount};
+ghost use Rattle.contents.specs.Rows.{echoed, valueEchoed, pecRight, aliveRight, checkByte, countRight, takenOf};
 ghost use Rattle.contents.specs.InOrder.{judgeBytes};
-
-// Byte i of an answer; past the end it reads as 0.
-fn byte_in(bytes: &[u8], i: usize) -> u8
-    ensures { λ r. ⌜ r ≡ byteIn (now (bytes .entry)) i ⌝ }
-{
-    if i < bytes.len() { bytes[i] } else { 0 }
-}
 
 // Row 7 of a write: its value came back.
 fn value_echoes(q: Question, bytes: &[u8]) -> bool
@@ -28,10 +22,10 @@ fn value_echoes(q: Question, bytes: &[u8]) -> bool
     let value = q.value;
     let low = (value % 256) as u8;
     let high = (value / 256) as u8;
-    if byte_in(bytes, 2) != low {
+    if byte_or_zero(bytes, 2) != low {
         return false;
     }
-    byte_in(bytes, 3) == high
+    byte_or_zero(bytes, 3) == high
 }
 
 // Row 7, ECHO: the first and second byte, and a write's value, are what was asked.
@@ -39,11 +33,11 @@ fn echoes(q: Question, first: u16, bytes: &[u8]) -> bool
     requires { ⌜ first ≡ shapeOf q .first ⌝ }
     ensures { λ r. ⌜ r ≡ echoed q (now (bytes .entry)) ⌝ }
 {
-    if wide(byte_in(bytes, 0)) != first {
+    if wide(byte_or_zero(bytes, 0)) != first {
         return false;
     }
     let kind = q.kind;
-    let second = byte_in(bytes, 1);
+    let second = byte_or_zero(bytes, 1);
     if kind == HELLOALL {
         return second == 0;
     }
@@ -81,7 +75,7 @@ fn pec_is_right(q: Question, covered: usize, bytes: &[u8]) -> bool
     if q.kind == HELLOALL {
         return true;
     }
-    byte_in(bytes, covered) == pec_before(bytes, covered)
+    byte_or_zero(bytes, covered) == pec_before(bytes, covered)
 }
 
 // Row 9, ALIVE: the seed and one for each device that acts, and after FFh comes 00h.
@@ -96,45 +90,47 @@ fn alive_is_right(q: Question, covered: usize, acting: u8, bytes: &[u8]) -> bool
         return true;
     }
     let seed = q.seed;
-    byte_in(bytes, covered + 1) == wrapping_add_u8(seed, acting)
+    byte_or_zero(bytes, covered + 1) == wrapping_add_u8(seed, acting)
 }
 
-// The check byte of a read; 0 of the other kinds, which have none.
-fn check_byte(q: Question, covered: usize, bytes: &[u8]) -> u8
-    requires { ⌜ covered ≡ shapeOf q .covered ⌝ }
+// The check byte of a read, which stands behind the values; 0 of the other kinds, which have none.
+fn check_byte(q: Question, values: usize, bytes: &[u8]) -> u8
+    requires { ⌜ values ≡ shapeOf q .values ⌝ }
     ensures { λ r. ⌜ r ≡ checkByte q (now (bytes .entry)) ⌝ }
 {
     if q.kind <= WRITEDEVICE {
         return 0;
     }
-    byte_in(bytes, covered - 1)
+    byte_or_zero(bytes, 2 + 2 * values)
 }
 
-// Row 11, COUNT, and what is taken where it passes.
-fn settle(q: Question, values: usize, bytes: &[u8]) -> Reading
+// Row 11, COUNT: HELLOALL's last byte is 1 to 32.
+fn count_is_right(q: Question, bytes: &[u8]) -> bool
+    ensures { λ r. ⌜ r ≡ countRight q (now (bytes .entry)) ⌝ }
+{
+    if q.kind != HELLOALL {
+        return true;
+    }
+    let count = byte_or_zero(bytes, 2);
+    if count < 1 {
+        return false;
+    }
+    count <= 32
+}
+
+// What is taken where every row passes.
+fn taken(q: Question, values: usize, bytes: &[u8]) -> Reading
     requires { ⌜ values ≡ shapeOf q .values ⌝ }
-    ensures { λ r. ⌜ r ≡ settled q (now (bytes .entry)) ⌝ }
+    ensures { λ r. ⌜ r ≡ takenOf q (now (bytes .entry)) ⌝ }
 {
     let kind = q.kind;
     if kind == HELLOALL {
-        return settle_count(byte_in(bytes, 2));
+        return Reading::Counted(byte_or_zero(bytes, 2));
     }
     if kind <= WRITEDEVICE {
         return Reading::Written;
     }
     Reading::Values(values)
-}
-
-fn settle_count(count: u8) -> Reading
-    ensures { λ r. ⌜ r ≡ settledCount count ⌝ }
-{
-    if count < 1 {
-        return Reading::Refused(Refusal::Count(count));
-    }
-    if 32 < count {
-        return Reading::Refused(Refusal::Count(count));
-    }
-    Reading::Counted(count)
 }
 
 // Rows 7 to 11, and what is taken where all of them pass.
@@ -155,9 +151,12 @@ pub fn judge_bytes(q: Question, bytes: &[u8]) -> Reading
     if !alive_is_right(q, covered, acting, bytes) {
         return Reading::Refused(Refusal::Alive);
     }
-    let check = check_byte(q, covered, bytes);
+    let check = check_byte(q, values, bytes);
     if check != 0 {
         return Reading::Refused(Refusal::Check(check));
     }
-    settle(q, values, bytes)
+    if !count_is_right(q, bytes) {
+        return Reading::Refused(Refusal::Count(byte_or_zero(bytes, 2)));
+    }
+    taken(q, values, bytes)
 }

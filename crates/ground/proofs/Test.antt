@@ -40,6 +40,12 @@ below-or-not a b = by-test (ltb a b) refl
     by-test true e = inl (ltb-true a b e)
     by-test false e = inr (ltb-false a b e)
 
+-- two tests each of which passes where the other does
+pub same-way : (t u : Bool) → (t ≡ true → u ≡ true) → (u ≡ true → t ≡ true) → t ≡ u
+same-way true u to from = sym (to refl)
+same-way false true to from = from refl
+same-way false false to from = refl
+
 -- a test that cannot have come out true
 pub refuted : (t : Bool) → (t ≡ true → ⊥) → t ≡ false
 refuted true never = absurd (never refl)

@@ -14,7 +14,7 @@ use Rattle.questions.specs.declared.question.Question.{Question}
 abbrev pub isPlace : (n k : ℕ) → Bool
 isPlace n k = leb 1 n && leb n 32 && ltb k n
 
--- the kind that the first byte names to device k: 57, 02, k*8+4, 03; what is none of these can only be k*8+5
+-- the kind that the first byte names to device k: 57, 02, k*8+4, 03; any other byte is taken for k*8+5, and then is no command unless it is
 unfoldable pub kindHeard : (k first : ℕ) → ℕ
 kindHeard k first =
     cond (eqb first 0x57) helloAll
@@ -27,8 +27,8 @@ kindHeard k first =
 abbrev pub carried : (kind k : ℕ) → ℕ
 carried kind k = cond (eqb kind readAll) k 0
 
--- where the alive byte stands: directly after the PEC, which follows four bytes of a write, and a read's three and its values; HELLOALL,
--- which has none, is not asked
+-- where the alive byte stands: directly after the PEC, which follows four bytes of a write, and a read's three and its values. HELLOALL has none:
+-- what is read there for it is the seed of a question that sends no seed
 abbrev pub alivePlace : (kind k : ℕ) → ℕ
 alivePlace kind k = cond (leb kind writeDevice) 5 (4 + 2 * carried kind k)
 

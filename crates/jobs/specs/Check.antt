@@ -16,7 +16,7 @@ use Rattle.jobs.specs.declared.Next.the-variants as next
 use Rattle.jobs.specs.Format.{Entry, asked}
 use Rattle.jobs.specs.Rules.{goodHeader, keepsRules}
 
--- two bytes of 16 bits, low first
+-- 16 bits of two bytes, low first
 abbrev pub pairAt : List ℕ → (i j : ℕ) → ℕ
 pairAt bytes i j = getD bytes i 0 + 256 * getD bytes j 0
 
@@ -76,6 +76,11 @@ goodFile file =
 unfoldable pub openedOf : List ℕ → Opened
 openedOf file = cond (goodFile file) (opened.Job (headerIn file)) opened.File
 
+-- document 01's number of that answer
+abbrev pub openedNumber : Opened → ℕ
+openedNumber (opened.Job h) = 0
+openedNumber opened.File = 14
+
 -- an entry with its place
 abbrev pub placedIn : Header → (at : ℕ) → (front : List ℕ) → Next
 placedIn h at front =
@@ -88,3 +93,9 @@ nextIn h at (b ∷ rest) = cond (goodEntry h (b ∷ rest)) (placedIn h at (b ∷
 -- what `next` says: from the cursor on
 unfoldable pub nextOf : Header → List ℕ → Cursor → Next
 nextOf h file c = nextIn h (c .at) (drop (c .at) file)
+
+-- document 01's number of that answer: the end of the entries is no refusal
+abbrev pub nextNumber : Next → ℕ
+nextNumber (next.Entry e c) = 0
+nextNumber next.End = 0
+nextNumber next.File = 14

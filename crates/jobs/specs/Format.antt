@@ -20,11 +20,14 @@ pub record Entry : Type 0 where
 abbrev pub headerBytes : Header → List ℕ
 headerBytes h = 0x42 ∷ 0x4D ∷ 0x43 ∷ 1 ∷ 0 ∷ h .n ∷ h .alive ∷ []
 
--- kind, register, value (16 bits), device, seed, number of words (16 bits), the answer's words
+-- kind, register, value (16 bits), device, seed, number of words (16 bits)
+abbrev pub fieldBytes : (kind reg value device seed words : ℕ) → List ℕ
+fieldBytes kind reg value device seed words =
+    kind ∷ reg ∷ (value % 256) ∷ (value / 256) ∷ device ∷ seed ∷ (words % 256) ∷ (words / 256) ∷ []
+
+-- and the answer's words
 abbrev pub entryBytes : Entry → List ℕ
-entryBytes e =
-    e .kind ∷ e .reg ∷ (e .value % 256) ∷ (e .value / 256) ∷ e .device ∷ e .seed
-    ∷ (length (e .words) % 256) ∷ (length (e .words) / 256) ∷ asBytes (e .words)
+entryBytes e = fieldBytes (e .kind) (e .reg) (e .value) (e .device) (e .seed) (length (e .words)) ++ asBytes (e .words)
 
 unfoldable pub entriesBytes : List Entry → List ℕ
 entriesBytes [] = []

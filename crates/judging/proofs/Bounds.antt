@@ -1,8 +1,8 @@
 -- Bounds of what the rows say: a place lies on the line, and room for 32 values is room enough.
-use mathlib.Core.Path.{_≡_, refl, sym, ap, _∙_}
-use mathlib.Core.Bool.{Bool, true, false, cond, _&&_}
+use mathlib.Core.Path.{_≡_, refl, sym, _∙_}
+use mathlib.Core.Bool.{Bool, true, false}
 use mathlib.Core.List.{List}
-use Prim.Native.Nat.{ℕ, zero, suc, _-_, _≤_, min}
+use Prim.Native.Nat.{ℕ, _-_, _≤_, min}
 use native.Mathlib.Nat.{le-refl}
 use native.Mathlib.Omega.{arith}
 use lib.Dec.{eqb, leb}
@@ -14,58 +14,24 @@ use Rattle.scanning.specs.Frame.{framed}
 use Rattle.scanning.specs.declared.Place.{Place}
 use Rattle.scanning.specs.declared.Place.the-variants.{At, Nowhere}
 use Rattle.scanning.proofs.FirstPlace.{at-first}
-use Rattle.questions.specs.Question.{byForm, goodQuestion}
+use Rattle.questions.specs.Question.{goodQuestion}
 use Rattle.questions.specs.Shape.{shapeOf}
 use Rattle.questions.specs.declared.question.Question as asked
 use Rattle.questions.proofs.Good.{good-values}
 use Rattle.readings.specs.Reading.{refusalPlace, placeOf}
+use Rattle.readings.specs.FirstFault.{givenUnless, said}
 use Rattle.readings.specs.declared.Refusal.{Refusal}
 use Rattle.readings.specs.declared.Refusal.the-variants.{Question, Room, Length, Character, Frame, Manchester, Echo, Pec, Alive, Check, Count}
-use Rattle.readings.specs.declared.Reading.{Reading}
-use Rattle.readings.specs.declared.Reading.the-variants.{Counted, Written, Values, Refused}
-use Rattle.contents.specs.Rows.{byteIn, echoed, pecRight, aliveRight, checkByte, settledCount, settled}
-use Rattle.contents.specs.InOrder.{unless, judgeBytes}
-use Rattle.judging.specs.Judge.{unlessAt, wordRows, firstRows, judgeOf}
+use Rattle.readings.specs.declared.Screened.{Screened}
+use Rattle.readings.specs.declared.Screened.the-variants.{Passed}
+use Rattle.readings.proofs.FirstFault.{first-of-each}
+use Rattle.readings.proofs.FirstFault.Each.{none, next}
+use Rattle.contents.specs.Rows.{byteIn, echoed, pecRight, aliveRight, checkByte, countRight, takenOf}
+use Rattle.contents.specs.InOrder.{byteRows}
+use Rattle.contents.proofs.RowLaws.{taken-zero}
+use Rattle.judging.specs.Judge.{givenAt, callRows, wordRows, rowsOf, judgeOf}
 
 -- ---- a place lies on the line
-
-module _ (most : ℕ) where
-  after-row : (t : Bool) (why : Refusal) (next : Reading) → refusalPlace why ≤ most → placeOf next ≤ most → placeOf (unless t (Refused why) next) ≤ most
-  after-row true why next row later = later
-  after-row false why next row later = row
-
-  after-place : (p : Place) (why : ℕ → Refusal) (next : Reading) → ((i : ℕ) → p ≡ At i → refusalPlace (why i) ≤ most) → placeOf next ≤ most
-      → placeOf (unlessAt p (λ (i : ℕ). Refused (why i)) next) ≤ most
-  after-place (At i) why next row later = row i refl
-  after-place Nowhere why next row later = later
-
-  count-placeless : (b : ℕ) → placeOf (settledCount b) ≤ most
-  unfolding settledCount
-  count-placeless b = either (leb 1 b) (leb b 32)
-    where
-      either : (t u : Bool) → placeOf (cond (t && u) (Counted b) (Refused (Count b))) ≤ most
-      either true true = omega arith
-      either true false = omega arith
-      either false u = omega arith
-
-  settled-placeless : (q : asked.Question) (bytes : List ℕ) → placeOf (settled q bytes) ≤ most
-  unfolding settled
-  settled-placeless q bytes = by-kind (q .kind)
-    where
-      by-kind : (k : ℕ) → placeOf (byForm k (settledCount (byteIn bytes 2)) Written (Values (shapeOf q .values))) ≤ most
-      by-kind zero = count-placeless (byteIn bytes 2)
-      by-kind (suc zero) = omega arith
-      by-kind (suc (suc zero)) = omega arith
-      by-kind (suc (suc (suc zero))) = omega arith
-      by-kind (suc (suc (suc (suc k)))) = omega arith
-
-  bytes-placeless : (q : asked.Question) (bytes : List ℕ) → placeOf (judgeBytes q bytes) ≤ most
-  unfolding judgeBytes
-  bytes-placeless q bytes =
-      after-row (echoed q bytes) Echo _ (omega arith)
-      (after-row (pecRight q bytes) Pec _ (omega arith)
-      (after-row (aliveRight q bytes) Alive _ (omega arith)
-      (after-row (eqb (checkByte q bytes) 0) (Check (checkByte q bytes)) (settled q bytes) (omega arith) (settled-placeless q bytes))))
 
 character-place : (line : List ℕ) (i : ℕ) → firstNoCharacter line ≡ At i → i ≤ length line
 unfolding firstNoCharacter
@@ -76,43 +42,62 @@ unfolding firstNoNibble
 nibble-place line i e = omega (arith, at-first _ line 1 (length line - 2) i e .below)
 
 pub place-within : (q : asked.Question) (line : List ℕ) (room : ℕ) → placeOf (judgeOf q line room) ≤ length line
-unfolding judgeOf firstRows wordRows
+unfolding judgeOf rowsOf callRows wordRows byteRows
 place-within q line room =
-    let most = length line in
-    after-row most (goodQuestion q) Question _ (omega arith)
-    (after-row most (leb (shapeOf q .values) room) Room _ (omega arith)
-    (after-row most (eqb (length line) (shapeOf q .words)) Length _ (omega arith)
-    (after-place most (firstNoCharacter line) Character _ (character-place line)
-    (after-row most (framed line) Frame _ (omega arith)
-    (after-place most (firstNoNibble line) Manchester _ (nibble-place line) (bytes-placeless most q (bytesOf line)))))))
+    first-of-each Within pass (rowsOf q line room)
+    (next (unless Question (goodQuestion q) refl)
+    (next (unless Room (leb (shapeOf q .values) room) refl)
+    (next (unless Length (eqb (length line) (shapeOf q .words)) refl)
+    (next (at Character (firstNoCharacter line) (character-place line))
+    (next (unless Frame (framed line) refl)
+    (next (at Manchester (firstNoNibble line) (nibble-place line))
+    (next (unless Echo (echoed q bytes) refl)
+    (next (unless Pec (pecRight q bytes) refl)
+    (next (unless Alive (aliveRight q bytes) refl)
+    (next (unless (Check (checkByte q bytes)) (eqb (checkByte q bytes) 0) refl)
+    (next (unless (Count (byteIn bytes 2)) (countRight q bytes) refl)
+    none)))))))))))
+  where
+    bytes : List ℕ
+    bytes = bytesOf line
+
+    Within : Screened → Type 0
+    Within s = placeOf (said s (takenOf q (bytesOf line))) ≤ length line
+
+    pass : Within Passed
+    pass = omega (arith, taken-zero q (bytesOf line) placeOf (λ n. refl) refl (λ m. refl))
+
+    unless : (why : Refusal) (t : Bool) → refusalPlace why ≡ 0 → Within (givenUnless why t)
+    unless why true e = pass
+    unless why false e = omega arith
+
+    at : (why : ℕ → Refusal) (p : Place) → ((i : ℕ) → p ≡ At i → refusalPlace (why i) ≤ length line) → Within (givenAt why p)
+    at why (At i) row = row i refl
+    at why Nowhere row = pass
 
 -- ---- room
 
+-- of a good question all that counts is whether the values have room, and of another not even that
+same-room : (q : asked.Question) (line : List ℕ) (room other : ℕ)
+    → (goodQuestion q ≡ true → leb (shapeOf q .values) room ≡ leb (shapeOf q .values) other) → judgeOf q line room ≡ judgeOf q line other
+unfolding judgeOf rowsOf callRows
+same-room q line room other same = by-test (goodQuestion q) refl
+  where
+    by-test : (t : Bool) → goodQuestion q ≡ t → judgeOf q line room ≡ judgeOf q line other
+    by-test true good = let alike = same good in simp (good, alike)
+    by-test false bad = simp bad
+
 -- no answer has more than 32 values
 pub room-enough : (q : asked.Question) (line : List ℕ) (room : ℕ) → judgeOf q line (min room 32) ≡ judgeOf q line room
-unfolding judgeOf firstRows
-room-enough q line room = by-test (goodQuestion q) refl
+room-enough q line room =
+    same-room q line (min room 32) room (λ good. by-room good (leb (shapeOf q .values) room) refl)
   where
-    later : Reading
-    later = unless (eqb (length line) (shapeOf q .words)) (Refused Length) (wordRows Refused line (judgeBytes q (bytesOf line)))
-
-    same-test : goodQuestion q ≡ true → leb (shapeOf q .values) (min room 32) ≡ leb (shapeOf q .values) room
-    same-test good = by-room (leb (shapeOf q .values) room) refl
-      where
-        by-room : (t : Bool) → leb (shapeOf q .values) room ≡ t → leb (shapeOf q .values) (min room 32) ≡ t
-        by-room true e = le-leb (shapeOf q .values) (min room 32) (omega (arith, leb-true (shapeOf q .values) room e, good-values q good))
-        by-room false e = lt-leb (shapeOf q .values) (min room 32) (omega (arith, leb-false (shapeOf q .values) room e))
-
-    by-test : (t : Bool) → goodQuestion q ≡ t → unless (goodQuestion q) (Refused Question) (unless (leb (shapeOf q .values) (min room 32)) (Refused Room) later)
-        ≡ unless (goodQuestion q) (Refused Question) (unless (leb (shapeOf q .values) room) (Refused Room) later)
-    by-test true good = ap (λ (u : Bool). unless (goodQuestion q) (Refused Question) (unless u (Refused Room) later)) (same-test good)
-    by-test false bad =
-        ap (λ (t : Bool). unless t (Refused Question) (unless (leb (shapeOf q .values) (min room 32)) (Refused Room) later)) bad
-        ∙ sym (ap (λ (t : Bool). unless t (Refused Question) (unless (leb (shapeOf q .values) room) (Refused Room) later)) bad)
+    by-room : goodQuestion q ≡ true → (t : Bool) → leb (shapeOf q .values) room ≡ t → leb (shapeOf q .values) (min room 32) ≡ leb (shapeOf q .values) room
+    by-room good true e = le-leb (shapeOf q .values) (min room 32) (omega (arith, leb-true (shapeOf q .values) room e, good-values q good)) ∙ sym e
+    by-room good false e = lt-leb (shapeOf q .values) (min room 32) (omega (arith, leb-false (shapeOf q .values) room e)) ∙ sym e
 
 -- where there is room, room plays no part
 pub enough-room : (q : asked.Question) (line : List ℕ) (room : ℕ) → shapeOf q .values ≤ room → judgeOf q line room ≡ judgeOf q line (shapeOf q .values)
-unfolding judgeOf firstRows
 enough-room q line room h =
-    ap (λ (t : Bool). unless (goodQuestion q) (Refused Question) (unless t (Refused Room) (unless (eqb (length line) (shapeOf q .words)) (Refused Length) (wordRows Refused line (judgeBytes q (bytesOf line))))))
-    (le-leb (shapeOf q .values) room h ∙ sym (le-leb (shapeOf q .values) (shapeOf q .values) (le-refl (shapeOf q .values))))
+    same-room q line room (shapeOf q .values)
+    (λ good. le-leb (shapeOf q .values) room h ∙ sym (le-leb (shapeOf q .values) (shapeOf q .values) (le-refl (shapeOf q .values))))

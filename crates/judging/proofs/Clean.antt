@@ -1,6 +1,6 @@
--- A clean line passes rows 4 to 6, since preamble, nibbles and stop are characters all; any other line is turned away by one of them.
-use mathlib.Core.Path.{_≡_, refl, sym, ap, _∙_}
-use mathlib.Core.Bool.{Bool, true, false, _&&_, true≢false}
+-- A clean line passes rows 4 to 6, since preamble, nibbles and stop are characters all.
+use mathlib.Core.Path.{_≡_, ap, _∙_}
+use mathlib.Core.Bool.{true}
 use mathlib.Core.Logic.{⊎-elim}
 use mathlib.Core.List.{List}
 use Prim.Native.Nat.{ℕ, _+_, _-_, _<_, _≤_}
@@ -14,18 +14,14 @@ use Rattle.characters.specs.Character.{preamble, stop}
 use Rattle.characters.specs.Nibble.{isNibble}
 use Rattle.character_check.specs.Check.{isCharacter}
 use Rattle.character_check.proofs.Pass.{preamble-character, stop-character, nibble-is-character}
-use Rattle.scanning.specs.Place.{firstNoCharacter, firstNoNibble, allNibbles}
+use Rattle.scanning.specs.Place.{firstNoCharacter, firstNoNibble}
 use Rattle.scanning.specs.Frame.{framed}
-use Rattle.scanning.specs.declared.Place.{Place}
-use Rattle.scanning.specs.declared.Place.the-variants.{At, Nowhere}
-use Rattle.scanning.proofs.FirstPlace.{nowhere-passes, passes-nowhere, nibbles-nowhere, nowhere-nibbles}
-use Rattle.readings.specs.declared.Refusal.{Refusal}
-use Rattle.readings.specs.declared.Refusal.the-variants.{Character, Frame, Manchester}
-use Rattle.contents.specs.InOrder.{unless}
-use Rattle.contents.proofs.Unless.{goes-on}
-use Rattle.judging.specs.Judge.{unlessAt, wordRows}
+use Rattle.scanning.specs.declared.Place.the-variants.{Nowhere}
+use Rattle.scanning.proofs.FirstPlace.{nowhere-passes, passes-nowhere, nibbles-nowhere}
+use Rattle.readings.specs.FirstFault.{firstFault}
+use Rattle.readings.specs.declared.Screened.the-variants.{Passed}
+use Rattle.judging.specs.Judge.{wordRows}
 use Rattle.judging.specs.Clean.{isClean}
-use Rattle.judging.proofs.UnlessAt.{no-place}
 
 module _ (line : List ℕ) (clean : isClean line ≡ true) where
   frame : framed line ≡ true
@@ -64,22 +60,6 @@ module _ (line : List ℕ) (clean : isClean line ≡ true) where
   unfolding firstNoCharacter
   characters = passes-nowhere isCharacter line 0 (length line) (λ j lo hi. each-character j (omega arith))
 
-  pub clean-passes : {A : Type 0} (away : Refusal → A) (next : A) → wordRows away line next ≡ next
+  pub clean-passes : firstFault (wordRows line) ≡ Passed
   unfolding wordRows
-  clean-passes away next = no-place _ _ _ characters ∙ goes-on _ _ _ frame ∙ no-place _ _ _ nibbles
-
--- so what is said where all three pass plays no part
-pub spoiled-turned : {A : Type 0} (away : Refusal → A) (line : List ℕ) (one other : A) → isClean line ≡ false → wordRows away line one ≡ wordRows away line other
-unfolding isClean wordRows
-spoiled-turned {A} away line one other e = ap (unlessAt (firstNoCharacter line) (λ (i : ℕ). away (Character i))) (by-frame (framed line) e)
-  where
-    by-place : (p : Place) → firstNoNibble line ≡ p → allNibbles line ≡ false
-        → unlessAt p (λ (i : ℕ). away (Manchester i)) one ≡ unlessAt p (λ (i : ℕ). away (Manchester i)) other
-    by-place (At i) is some = refl
-    by-place Nowhere is some = absurd (true≢false (sym (nowhere-nibbles line is) ∙ some))
-
-    by-frame : (t : Bool) → (t && allNibbles line) ≡ false
-        → unless t (away Frame) (unlessAt (firstNoNibble line) (λ (i : ℕ). away (Manchester i)) one)
-        ≡ unless t (away Frame) (unlessAt (firstNoNibble line) (λ (i : ℕ). away (Manchester i)) other)
-    by-frame true some = by-place (firstNoNibble line) refl some
-    by-frame false some = refl
+  clean-passes = simp (characters, frame, nibbles)

@@ -1,6 +1,6 @@
-pub mod UnlessAt
 pub mod Accepted
 mod Clean
 pub mod Screening
 pub mod Bounds
+pub mod SmallBytes
 pub mod Agree

@@ -1,5 +1,6 @@
--- The table "Turned away" of document 01, rows 1 to 11 in their order. Each check runs over the whole line before the next.
-use mathlib.Core.List.{List}
+-- The table "Turned away" of document 01, rows 1 to 11 in their order: rows 1 to 6 are the two lists here, and rows 7 to 11 the list `byteRows`
+-- of crates/contents/specs/InOrder.antt. `rowsOf` joins them. Each check runs over the whole line before the next.
+use mathlib.Core.List.{List, [], _∷_, _++_}
 use Prim.Native.Nat.{ℕ}
 use lib.Dec.{eqb, leb}
 use lib.ListN.{length}
@@ -11,47 +12,50 @@ use Rattle.scanning.specs.declared.Place.the-variants.{At, Nowhere}
 use Rattle.questions.specs.Question.{goodQuestion}
 use Rattle.questions.specs.Shape.{shapeOf}
 use Rattle.questions.specs.declared.question.Question as asked
-use Rattle.contents.specs.InOrder.{unless, judgeBytes}
+use Rattle.contents.specs.Rows.{takenOf}
+use Rattle.contents.specs.InOrder.{byteRows}
+use Rattle.readings.specs.FirstFault.{givenUnless, firstFault, said}
 use Rattle.readings.specs.declared.Refusal.{Refusal}
 use Rattle.readings.specs.declared.Refusal.the-variants.{Question, Room, Length, Character, Frame, Manchester}
 use Rattle.readings.specs.declared.Reading.{Reading}
-use Rattle.readings.specs.declared.Reading.the-variants.{Refused}
-use Rattle.judging.specs.declared.Screened.{Screened}
-use Rattle.judging.specs.declared.Screened.the-variants.{Passed, Faulty}
+use Rattle.readings.specs.declared.Screened.{Screened}
+use Rattle.readings.specs.declared.Screened.the-variants.{Passed, Faulty}
 
--- turned away with the place, if there is one
-abbrev pub unlessAt : {A : Type 0} → Place → (ℕ → A) → A → A
-unlessAt (At i) away next = away i
-unlessAt Nowhere away next = next
+-- a row that looks for a place, and is given with that place
+abbrev pub givenAt : (ℕ → Refusal) → Place → Screened
+givenAt why (At i) = Faulty (why i)
+givenAt why Nowhere = Passed
 
--- rows 4 to 6, and what is said where none of them turns the line away
-unfoldable pub wordRows : {A : Type 0} → (Refusal → A) → List ℕ → A → A
-wordRows away line next =
-    unlessAt (firstNoCharacter line) (λ (i : ℕ). away (Character i))
-    (unless (framed line) (away Frame)
-    (unlessAt (firstNoNibble line) (λ (i : ℕ). away (Manchester i))
-    next))
+-- rows 1 to 3, on the question, the room and the line's length
+unfoldable pub callRows : asked.Question → List ℕ → (room : ℕ) → List Screened
+callRows q line room =
+    -- 1 QUESTION: kind above 4; alive not 0 or 1; for kinds 1 to 4, n not 1..32; for kinds 2 and 4, the command's device a is n or more
+    givenUnless Question (goodQuestion q)
+    -- 2 ROOM: the lent output is shorter than what the call writes when nothing else is wrong
+    ∷ givenUnless Room (leb (shapeOf q .values) room)
+    -- 3 LENGTH: the line's length is not the answer's length
+    ∷ givenUnless Length (eqb (length line) (shapeOf q .words))
+    ∷ []
 
--- rows 1 to 6, with room for so many values
-unfoldable pub firstRows : {A : Type 0} → (Refusal → A) → asked.Question → List ℕ → (room : ℕ) → A → A
-firstRows away q line room next =
-    unless (goodQuestion q) (away Question)
-    (unless (leb (shapeOf q .values) room) (away Room)
-    (unless (eqb (length line) (shapeOf q .words)) (away Length)
-    (wordRows away line next)))
+-- rows 4 to 6, on the line's words
+unfoldable pub wordRows : List ℕ → List Screened
+wordRows line =
+    -- 4 CHARACTER: a word has bit 12..15 set, start 1, a stop bit 0, or odd parity; with the lowest such place
+    givenAt Character (firstNoCharacter line)
+    -- 5 FRAME: first word no preamble or last no stop
+    ∷ givenUnless Frame (framed line)
+    -- 6 MANCHESTER: a word between is no nibble; with the lowest such place
+    ∷ givenAt Manchester (firstNoNibble line)
+    ∷ []
 
--- all of them: rows 7 to 11 look at the bytes between the ends
+-- all of them; rows 7 to 11, ECHO, PEC, ALIVE, CHECK and COUNT, look at the bytes between the ends
+unfoldable pub rowsOf : asked.Question → List ℕ → (room : ℕ) → List Screened
+rowsOf q line room = callRows q line room ++ wordRows line ++ byteRows q (bytesOf line)
+
+-- what the reader says: the first row that is given, or what is taken where none is
 unfoldable pub judgeOf : asked.Question → List ℕ → (room : ℕ) → Reading
-judgeOf q line room = firstRows Refused q line room (judgeBytes q (bytesOf line))
+judgeOf q line room = said (firstFault (rowsOf q line room)) (takenOf q (bytesOf line))
 
--- rows 1 to 6 by themselves, and of these rows 4 to 6
+-- rows 1 to 6 by themselves
 unfoldable pub screenOf : asked.Question → List ℕ → (room : ℕ) → Screened
-screenOf q line room = firstRows Faulty q line room Passed
-
-abbrev pub screenWords : List ℕ → Screened
-screenWords line = wordRows Faulty line Passed
-
--- what is said of a line that was screened, where the other rows say this much: its row's number, or what they say
-abbrev pub said : Screened → Reading → Reading
-said Passed next = next
-said (Faulty why) next = Refused why
+screenOf q line room = firstFault (callRows q line room ++ wordRows line)

@@ -3,29 +3,25 @@ use questions::question::Question;
 use questions::question::is_good;
 use questions::question::shape_of;
 use readings::Refusal;
+use readings::Screened;
 use scanning::Place;
 use scanning::all_nibbles;
 use scanning::first_no_character;
 use scanning::first_no_nibble;
 use scanning::is_framed;
 ghost use mathlib.Core.Path.{_≡_};
-ghost use Rattle.judging.specs.Judge.{screenOf, screenWords};
-ghost use Rattle.judging.specs.Clean.{isClean, spoiled};
-
-// Whether one of these rows turns a line away, and which.
-pub enum Screened {
-    Passed,
-    Faulty(Refusal),
-}
+ghost use Rattle.readings.specs.FirstFault.{firstFault};
+ghost use Rattle.judging.specs.Judge.{wordRows, screenOf};
+ghost use Rattle.judging.specs.Clean.{isClean};
 
 // Rows 4 to 6. A nibble is a character: a line that is framed and has nibbles between needs no other look.
 fn screen_words(line: &[u16]) -> Screened
-    ensures { λ r. ⌜ r ≡ screenWords (now (line .entry)) ⌝ }
+    ensures { λ r. ⌜ r ≡ firstFault (wordRows (now (line .entry))) ⌝ }
 {
     if is_clean(line) {
         return Screened::Passed;
     }
-    screen_spoiled(line)
+    screen_in_order(line)
 }
 
 fn is_clean(line: &[u16]) -> bool
@@ -37,10 +33,9 @@ fn is_clean(line: &[u16]) -> bool
     all_nibbles(line)
 }
 
-// Which of rows 4 to 6 turns away a line that is not clean, each over the whole line before the next. A line that all three pass is clean, and
-// nothing is asked of it here.
-fn screen_spoiled(line: &[u16]) -> Screened
-    ensures { λ r. ⌜ r ≡ spoiled (now (line .entry)) ⌝ }
+// Rows 4 to 6 one after the other, each over the whole line before the next.
+fn screen_in_order(line: &[u16]) -> Screened
+    ensures { λ r. ⌜ r ≡ firstFault (wordRows (now (line .entry))) ⌝ }
 {
     let bad = first_no_character(line);
     if let Place::At(i) = bad {
@@ -53,7 +48,7 @@ fn screen_spoiled(line: &[u16]) -> Screened
     if let Place::At(i) = odd {
         return Screened::Faulty(Refusal::Manchester(i));
     }
-    Screened::Faulty(Refusal::Frame)
+    Screened::Passed
 }
 
 // Rows 1 to 6, with room for so many values.

@@ -7,9 +7,10 @@ use questions::question::WRITEALL;
 use questions::question::WRITEDEVICE;
 use questions::question::is_good;
 use readings::Reading;
+use slices::least;
+use slices::word_or_zero;
 ghost use mathlib.Core.Path.{_≡_};
-ghost use Prim.Native.Nat.{min, max};
-ghost use lib.ListN.{getD};
+ghost use Prim.Native.Nat.{max};
 ghost use Rattle.letters.specs.Letters.{isGoodWrite, valueFor, verdict, unheard, decided, hearOf, begun};
 ghost use Rattle.letters.specs.Span.{spanOf};
 
@@ -76,22 +77,15 @@ fn is_good_write(q: Question) -> bool
     false
 }
 
-// Of the values that a read handed out, a device's own: READALL's come in address order, READDEVICE has one.
+// Of the values that a read handed out, a device's own: READALL's come in address order, READDEVICE has one; 0 where none was handed out.
 fn value_for(q: Question, device: usize, values: &[u16]) -> u16
     ensures { λ r. ⌜ r ≡ valueFor q device (now (values .entry)) ⌝ }
 {
     if q.kind == READALL {
-        value_at(values, device)
+        word_or_zero(values, device)
     } else {
-        value_at(values, 0)
+        word_or_zero(values, 0)
     }
-}
-
-// The value at a place, or 0 where none was handed out.
-fn value_at(values: &[u16], at: usize) -> u16
-    ensures { λ r. ⌜ r ≡ getD (now (values .entry)) at 0 ⌝ }
-{
-    if at < values.len() { values[at] } else { 0 }
 }
 
 // S where the value is the one written, else O.
@@ -141,12 +135,6 @@ fn span_of(q: Question) -> Span
             end: device + 1,
         },
     }
-}
-
-fn least(a: usize, b: usize) -> usize
-    ensures { λ r. ⌜ r ≡ min a b ⌝ }
-{
-    if a < b { a } else { b }
 }
 
 fn most(a: usize, b: usize) -> usize

@@ -8,5 +8,5 @@ use Rattle.lines.proofs.read.read_bytes.Reads as read-bytes
 pub byte-at-settled : Settled byte-at.Post
 byte-at-settled l given r r′ left left′ p q = p ∙ sym q
 
-pub read-bytes-settled-out : SettledIn (λ l left. now (left .1 .1 .0)) read-bytes.Post
+pub read-bytes-settled-out : SettledIn (λ l left. now (left .1 .0)) read-bytes.Post
 read-bytes-settled-out l given r r′ left left′ p q = p ∙ sym q

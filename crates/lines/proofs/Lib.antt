@@ -2,3 +2,4 @@ pub mod Line
 mod Nibbles
 pub mod LineDistance
 pub mod Agree
+pub mod LeftBy

@@ -1,13 +1,14 @@
 -- Laws of a line written from bytes: its length, its words and its bytes.
-use mathlib.Core.Path.{_≡_, refl, ap, ap₂, _∙_, subst}
+use mathlib.Core.Path.{_≡_, refl, sym, ap, ap₂, _∙_, subst}
 use mathlib.Core.Logic.{⊎-elim}
 use mathlib.Core.List.{List, [], _∷_, _++_}
-use Prim.Native.Nat.{ℕ, zero, suc, min, _+_, _-_, _*_, _/_, _%_, _≤_, _<_}
+use Prim.Native.Nat.{ℕ, zero, suc, _+_, _-_, _*_, _/_, _%_, _≤_, _<_}
 use native.Mathlib.Nat.{not-suc-le-zero, zero-add}
 use native.Mathlib.Numerals.{one-add}
 use native.Mathlib.Omega.{arith}
 use lib.ListN.{length, getD, length-append, List·getD-append, List·getD-eq-default}
 use lib.Seq.{ext-getD, getD-at, sets}
+use Rattle.ground.specs.Sweep.{tabulated}
 use Rattle.ground.proofs.Test.{below-or-not}
 use Rattle.ground.proofs.Sweep.{tabulated-at, length-tabulated}
 use Rattle.ground.proofs.Lists.{filled-whole}
@@ -15,7 +16,7 @@ use Rattle.remainder.specs.Turned.{Bytes}
 use Rattle.characters.specs.Character.{stop}
 use Rattle.characters.specs.Nibble.{nibbleWord, trueBits}
 use Rattle.characters.proofs.Nibble.{true-bits-of, true-bits-lt, nibble-word-lt}
-use Rattle.lines.specs.Line.{charactersOf, lineOf, byteAt, byteCount, bytesOf, bytesFrom}
+use Rattle.lines.specs.Line.{charactersOf, lineOf, byteAt, byteCount, bytesOf}
 
 pub length-characters : (bytes : List ℕ) → length (charactersOf bytes) ≡ 2 * length bytes
 unfolding charactersOf
@@ -99,12 +100,10 @@ bytes-of-line bytes b =
     ext-getD 0 (bytesOf (lineOf bytes)) bytes count
     (λ i h. bytes-at (lineOf bytes) i (omega (arith, length-bytes (lineOf bytes))) ∙ byte-of-line bytes b i (omega arith))
 
--- where the line has as many bytes as are lent, all of them are read
-pub all-read : (line out : List ℕ) (from count : ℕ) → length out ≡ count → count ≤ byteCount line - from
-    → sets out 0 (bytesFrom line from (min (length out) (byteCount line - from))) ≡ bytesFrom line from count
-all-read line out from count e h =
-    let all : min (length out) (byteCount line - from) ≡ length out = omega arith in
-    ap (λ (n : ℕ). sets out 0 (bytesFrom line from n)) all ∙ filled-whole (λ (k : ℕ). byteAt line (from + k)) out ∙ ap (bytesFrom line from) e
+-- where as many bytes are lent as the line has, they are the line's
+pub all-read : (line out : List ℕ) → length out ≡ byteCount line → sets out 0 (bytesOf line) ≡ bytesOf line
+unfolding bytesOf
+all-read line out e = ap (λ (n : ℕ). sets out 0 (tabulated (byteAt line) n 0)) (sym e) ∙ filled-whole (byteAt line) out ∙ ap (λ (n : ℕ). tabulated (byteAt line) n 0) e
 
 -- the places of a line of n bytes: the first, two for each byte, the last
 pub by-place : (P : ℕ → Type 0) (n : ℕ) → P 0 → ((i : ℕ) → i < n → P (1 + 2 * i)) → ((i : ℕ) → i < n → P (2 + 2 * i)) → P (1 + 2 * n)

@@ -2,11 +2,9 @@
 use mathlib.Core.Path.{_≡_, sym, ap, ap₂, _∙_}
 use mathlib.Core.Logic.{⊎-elim}
 use mathlib.Core.List.{List, _∷_, _++_, append-assoc}
-use Prim.Native.Nat.{ℕ, zero, suc, _+_, _-_, _*_, _/_, _^_, _≤_, _<_, min}
+use Prim.Native.Nat.{ℕ, zero, suc, _+_, _-_, _*_, _/_, _≤_, _<_, min}
 use native.Mathlib.Nat.{zero-add, suc-add}
 use native.Mathlib.Omega.{arith}
-use mir.Syntax.{w64}
-use mir.Val.{Fits}
 use lib.ListN.{length, getD, take, drop, List·getD-eq-default}
 use lib.Seq.{sets, sets-eq, getD-take, getD-drop, drop-drop}
 use Rattle.ground.specs.Sweep.{tabulated}
@@ -14,7 +12,7 @@ use Rattle.ground.proofs.Test.{below-or-not}
 use Rattle.ground.proofs.Sweep.{tabulated-at, length-tabulated, tabulated-same}
 use Rattle.ground.proofs.Lists.{sets-append, tabulated-shift}
 use Rattle.characters.specs.Nibble.{trueBits}
-use Rattle.lines.specs.Line.{byteAt, bytesFrom}
+use Rattle.lines.specs.Line.{byteAt}
 use Rattle.lines.specs.Nibbles.{nibbleIn, twoOf}
 
 -- the nibbles of some words, in a list
@@ -34,18 +32,18 @@ nibbles-joined words n =
     tabulated-same (twoOf (λ i. getD (nibbles words) i 0)) (twoOf (nibbleIn words)) n 0
     (λ k h. ap₂ (λ (x y : ℕ). x + 16 * y) (nibbles-at words (2 * k)) (nibbles-at words (2 * k + 1)))
 
--- the words of n bytes of a line, from byte from + k on
-part-bytes : (line : List ℕ) (from k n size : ℕ) → 2 * n ≤ size
-    → tabulated (twoOf (nibbleIn (take size (drop (1 + 2 * (from + k)) line)))) n 0 ≡ tabulated (λ (j : ℕ). byteAt line (from + (k + j))) n 0
+-- the words of n bytes of a line, from byte k on
+part-bytes : (line : List ℕ) (k n size : ℕ) → 2 * n ≤ size
+    → tabulated (twoOf (nibbleIn (take size (drop (1 + 2 * k) line)))) n 0 ≡ tabulated (λ (j : ℕ). byteAt line (k + j)) n 0
 unfolding byteAt
-part-bytes line from k n size h =
-    let start = 1 + 2 * (from + k) in
+part-bytes line k n size h =
+    let start = 1 + 2 * k in
     let part = take size (drop start line) in
     let word : (i at : ℕ) → i < size → start + i ≡ at → getD part i 0 ≡ getD line at 0 =
     λ i at inside e. getD-take size (drop start line) i 0 inside ∙ getD-drop start line i 0 ∙ ap (λ (p : ℕ). getD line p 0) e in
-    tabulated-same (twoOf (nibbleIn part)) (λ (j : ℕ). byteAt line (from + (k + j))) n 0
-    (λ j inside. ap₂ (λ (x y : ℕ). trueBits x + 16 * trueBits y) (word (2 * j) (1 + 2 * (from + (k + j))) (omega arith) (omega arith))
-    (word (2 * j + 1) (2 + 2 * (from + (k + j))) (omega arith) (omega arith)))
+    tabulated-same (twoOf (nibbleIn part)) (λ (j : ℕ). byteAt line (k + j)) n 0
+    (λ j inside. ap₂ (λ (x y : ℕ). trueBits x + 16 * trueBits y) (word (2 * j) (1 + 2 * (k + j)) (omega arith) (omega arith))
+    (word (2 * j + 1) (2 + 2 * (k + j)) (omega arith) (omega arith)))
 
 -- ---- a list filled from a rule, part by part
 
@@ -73,21 +71,17 @@ filled-part f l out k m e room =
 -- ---- one part of the bytes behind the other
 
 -- a part is not empty: less is left after it. It ends within what is asked for, in the room and on the line
-pub within : (room words from many k part : ℕ) → many ≡ min room ((words - 2) / 2 - from) → k < many → part ≡ min (many - k) 72
-    → (many - (k + part) < many - k) × (k + part ≤ many) × (k + part ≤ room) × (1 + 2 * (from + k) + 2 * part ≤ words)
-within room words from many k part e h p = (omega arith, omega arith, omega arith, omega arith)
-
--- a place on a line, counted in bytes of memory
-pub place-fits : (words start more : ℕ) → words * 2 < 2 ^ 63 → start + more ≤ words → Fits w64 (start * 2)
-place-fits words start more room h = record { fits = omega arith }
+pub within : (room words many k part : ℕ) → many ≡ min ((words - 2) / 2) room → k < many → part ≡ min (many - k) 72
+    → (many - (k + part) < many - k) × (k + part ≤ many) × (k + part ≤ room) × (1 + 2 * k + 2 * part ≤ words)
+within room words many k part e h p = (omega arith, omega arith, omega arith, omega arith)
 
 -- what a part leaves, as its contract says it, is the line's bytes at their places
-pub put : (line out₀ out part : List ℕ) (from k m words room : ℕ) → out ≡ sets out₀ 0 (bytesFrom line from k)
+pub put : (line out₀ out part : List ℕ) (k m words room : ℕ) → out ≡ sets out₀ 0 (tabulated (byteAt line) k 0)
     → k + m ≤ length out → words ≡ 2 * m → room ≡ m → length (take room (drop k out)) ≡ room
-    → part ≡ tabulated (twoOf (nibbleIn (take words (drop (1 + 2 * (from + k)) line)))) (length (take room (drop k out))) 0
-    → take k out ++ (part ++ drop room (drop k out)) ≡ sets out₀ 0 (bytesFrom line from (k + m))
-put line out₀ out part from k m words room e end w r size p =
-    let bytes : ℕ → List ℕ = λ n. tabulated (twoOf (nibbleIn (take words (drop (1 + 2 * (from + k)) line)))) n 0 in
+    → part ≡ tabulated (twoOf (nibbleIn (take words (drop (1 + 2 * k) line)))) (length (take room (drop k out))) 0
+    → take k out ++ (part ++ drop room (drop k out)) ≡ sets out₀ 0 (tabulated (byteAt line) (k + m) 0)
+put line out₀ out part k m words room e end w r size p =
+    let bytes : ℕ → List ℕ = λ n. tabulated (twoOf (nibbleIn (take words (drop (1 + 2 * k) line)))) n 0 in
     ap₂ (λ (l : List ℕ) (n : ℕ). take k out ++ (l ++ drop n (drop k out)))
-    (p ∙ ap bytes (size ∙ r) ∙ part-bytes line from k m words (omega arith)) r
-    ∙ filled-part (λ (j : ℕ). byteAt line (from + j)) out₀ out k m e end
+    (p ∙ ap bytes (size ∙ r) ∙ part-bytes line k m words (omega arith)) r
+    ∙ filled-part (byteAt line) out₀ out k m e end

@@ -25,7 +25,3 @@ byteCount line = (length line - 2) / 2
 
 unfoldable pub bytesOf : List ℕ → List ℕ
 bytesOf line = tabulated (byteAt line) (byteCount line) 0
-
--- some bytes of a line, from a place on
-abbrev pub bytesFrom : List ℕ → (from count : ℕ) → List ℕ
-bytesFrom line from count = tabulated (λ k. byteAt line (from + k)) count 0

@@ -1,20 +1,15 @@
 // What stands on a line: its bytes.
 use characters::true_bits;
+use slices::least;
+use slices::word_or_zero;
 ghost use mathlib.Core.Path.{_≡_};
-ghost use Prim.Native.Nat.{ℕ, _+_, _-_, _*_, _≤_, _<_, min};
+ghost use Prim.Native.Nat.{ℕ, _+_, _*_, _≤_, _<_};
 ghost use lib.ListN.{length, getD};
 ghost use lib.Seq.{sets};
 ghost use Rattle.ground.specs.Sweep.{tabulated};
 ghost use Rattle.characters.specs.Nibble.{trueBits};
-ghost use Rattle.lines.specs.Line.{byteAt, byteCount, bytesFrom};
+ghost use Rattle.lines.specs.Line.{byteAt, byteCount, bytesOf};
 ghost use Rattle.lines.specs.Nibbles.{nibbleIn, twoOf};
-
-// The word at a place, 0 past the end.
-fn word_at(line: &[u16], i: usize) -> u16
-    ensures { λ r. ⌜ r ≡ getD (now (line .entry)) i 0 ⌝ }
-{
-    if i < line.len() { line[i] } else { 0 }
-}
 
 // Byte i of a line; a word past the end reads as 0.
 pub fn byte_at(line: &[u16], i: usize) -> u8
@@ -23,8 +18,8 @@ pub fn byte_at(line: &[u16], i: usize) -> u8
     if line.len() <= i {
         return 0;
     }
-    let low = word_at(line, 1 + 2 * i);
-    let high = word_at(line, 2 + 2 * i);
+    let low = word_or_zero(line, 1 + 2 * i);
+    let high = word_or_zero(line, 2 + 2 * i);
     two_nibbles(low, high)
 }
 
@@ -38,20 +33,16 @@ fn byte_count(line: &[u16]) -> usize
     (line.len() - 2) / 2
 }
 
-// The bytes of a line from a place on, at the front of the lent bytes, as many as the line has and as there is room for; the rest stays. They are
-// read part by part; the longest answer has 69 bytes, and is one.
-pub fn read_bytes(line: &[u16], from: usize, out: &mut [u8])
-    ensures { λ _. ⌜ now (out .exit) ≡ sets (now (out .entry)) 0 (bytesFrom (now (line .entry)) from (min (length (now (out .entry))) (byteCount (now (line .entry)) - from))) ⌝ }
+// A line's bytes at the front of the lent bytes, as far as there is room; the rest stays. They are read part by part; the longest answer has 69
+// bytes, and is one.
+pub fn read_bytes(line: &[u16], out: &mut [u8])
+    ensures { λ _. ⌜ now (out .exit) ≡ sets (now (out .entry)) 0 (bytesOf (now (line .entry))) ⌝ }
 {
-    let count = byte_count(line);
-    if count <= from {
-        return;
-    }
-    let many = least(out.len(), count - from);
+    let many = least(byte_count(line), out.len());
     let mut k = 0;
     while k < many {
         let part = least(many - k, 72);
-        let start = 1 + 2 * (from + k);
+        let start = 1 + 2 * k;
         read_part(&line[start..start + 2 * part], &mut out[k..k + part]);
         k += part;
     }
@@ -113,10 +104,4 @@ fn two_nibbles(low: u16, high: u16) -> u8
     ensures { λ r. ⌜ r ≡ trueBits low + 16 * trueBits high ⌝ }
 {
     true_bits(low) + 16 * true_bits(high)
-}
-
-fn least(a: usize, b: usize) -> usize
-    ensures { λ r. ⌜ r ≡ min a b ⌝ }
-{
-    if a <= b { a } else { b }
 }

@@ -1,22 +1,19 @@
 -- Words and bytes stored place by place.
 use mathlib.Core.Path.{_≡_, refl, sym, ap, ap₂, _∙_}
-use mathlib.Core.Bool.{Bool, false, cond, _&&_}
 use mathlib.Core.Logic.{⊎-elim}
 use mathlib.Core.List.{List, [], _∷_}
 use Prim.Native.Nat.{ℕ, suc, _+_, _*_, _/_, _%_, _-_, _≤_, _<_, min}
 use native.Mathlib.Nat.{zero-add}
 use native.Mathlib.Numerals.{add-one}
 use native.Mathlib.Omega.{arith}
-use lib.Dec.{eqb, leb}
 use lib.ListN.{length, getD, take, drop, set, take-append-drop}
 use lib.Seq.{sets, set-out, take-suc, take-all, length-take-le, length-sets}
 use Rattle.ground.specs.Sweep.{tabulated}
-use borrow.Author.Tests.{le-leb, eq-eqb}
 use Rattle.ground.proofs.Test.{below-or-not}
 use Rattle.ground.proofs.Sweep.{tabulated-same}
 use Rattle.ground.proofs.Lists.{sets-append, tabulated-shift}
-use Rattle.packing.specs.Words.{wordsOf, asBytes, wordAt, withWord, lineIn, LineTaken}
-use Rattle.packing.proofs.Back.{length-bytes, length-words, bytes-append}
+use Rattle.packing.specs.Words.{wordsOf, asBytes, wordAt, withWord}
+use Rattle.packing.proofs.Back.{length-bytes, bytes-append}
 
 -- the words of some bytes, place by place
 pub words-tabulated : (bytes : List ℕ) → wordsOf bytes ≡ tabulated (wordAt bytes) (length bytes / 2) 0
@@ -85,20 +82,3 @@ stored-all out at bytes i there most =
     (omega (arith, length-sets out at (take i bytes), length-take-le i bytes there))))
     (λ (all : length bytes ≤ i). ap (sets out at) (take-all i bytes all))
     (below-or-not i (length bytes))
-
--- ---- a line, or none
-
-pub no-line : (bytes words : List ℕ) → (eqb (length bytes % 2) 0 && leb (length bytes / 2) (length words)) ≡ false → LineTaken bytes words words 0
-unfolding lineIn
-no-line bytes words none = record { counts = simp none; leaves = simp none }
-
-pub a-line : (bytes words after : List ℕ) → length bytes % 2 ≡ 0 → length bytes / 2 ≤ length words → after ≡ sets words 0 (wordsOf bytes)
-    → LineTaken bytes words after (length bytes / 2)
-unfolding lineIn
-a-line bytes words after even fits stored =
-    let is-even = eq-eqb (length bytes % 2) 0 even in
-    let does-fit = le-leb (length bytes / 2) (length words) fits in
-    record {
-      counts = sym (length-words bytes) ∙ sym (ap₂ (λ (t u : Bool). length (cond (t && u) (wordsOf bytes) [])) is-even does-fit);
-      leaves = stored ∙ sym (ap₂ (λ (t u : Bool). sets words 0 (cond (t && u) (wordsOf bytes) [])) is-even does-fit);
-    }

@@ -1,6 +1,7 @@
 // Words as bytes, two bytes a word, low first (document 01, "Job file and certificate" and "The C side").
+use slices::least;
 ghost use mathlib.Core.Path.{_≡_};
-ghost use Prim.Native.Nat.{_+_, _*_, _/_, _<_, min};
+ghost use Prim.Native.Nat.{_+_, _*_, _/_, _<_};
 ghost use lib.ListN.{length, set, take};
 ghost use lib.Seq.{sets};
 ghost use Rattle.packing.specs.Words.{wordAt, wordsOf, asBytes, withWord, LineTaken};
@@ -79,10 +80,4 @@ pub fn store(out: &mut [u8], at: usize, bytes: &[u8])
         out[at + i] = bytes[i];
         i += 1;
     }
-}
-
-fn least(a: usize, b: usize) -> usize
-    ensures { λ r. ⌜ r ≡ min a b ⌝ }
-{
-    if a < b { a } else { b }
 }

@@ -23,7 +23,7 @@ pub fn register_part<'a>(q: Question, line: &'a [u16], device: u8) -> &'a [u16]
 pub fn part_start(q: Question, line: &[u16], device: u8) -> usize
     ensures { λ r. ⌜ r ≡ startOf q (now (line .entry)) device ⌝ }
 {
-    let m = carried_by(q, line);
+    let m = values_found(q, line);
     if m == 0 {
         return 0;
     }
@@ -35,7 +35,7 @@ pub fn part_start(q: Question, line: &[u16], device: u8) -> usize
 }
 
 // How many values an accepted line carries: there is room for any answer's.
-fn carried_by(q: Question, line: &[u16]) -> usize
+fn values_found(q: Question, line: &[u16]) -> usize
     ensures { λ r. ⌜ r ≡ valuesFound q (now (line .entry)) ⌝ }
 {
     let mut values: [u16; 32] = [0; 32];

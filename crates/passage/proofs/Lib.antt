@@ -1,3 +1,4 @@
 pub mod EqualLength
 pub mod Passing
+pub mod ActedLength
 pub mod Agree

@@ -11,8 +11,8 @@ use borrow.Author.Tests.{ne-eqb, le-leb, lt-leb, lt-ltb}
 use Rattle.ground.proofs.Test.{below-or-not}
 use Rattle.ground.specs.Same.{same}
 use Rattle.lines.specs.Line.{lineOf}
-use Rattle.lines.specs.Write.{atFront}
 use Rattle.writing.specs.PutLine.{outOf}
+use Rattle.writing.proofs.Stored.{put-whole}
 use Rattle.questions.specs.Question.{goodQuestion}
 use Rattle.questions.specs.Shape.{shapeOf}
 use Rattle.questions.proofs.Good.{good-kind}
@@ -28,12 +28,9 @@ use Rattle.passage.proofs.EqualLength.{handed-size}
 
 -- a line put over one of its own length
 put-over : (bytes line : List ℕ) → length (lineOf bytes) ≡ length line → outOf bytes line ≡ lineOf bytes
-unfolding outOf
 put-over bytes line size =
-    let room : length (lineOf bytes) ≤ length line = omega arith in
     let none : length line ≤ length (lineOf bytes) = omega arith in
-    ap (λ (t : Bool). cond t (atFront (lineOf bytes) line) line) (le-leb (length (lineOf bytes)) (length line) room)
-    ∙ ap (λ (rest : List ℕ). lineOf bytes ++ rest) (drop-of-length-le line none) ∙ append-nil (lineOf bytes)
+    put-whole bytes line (omega arith) ∙ ap (λ (rest : List ℕ). lineOf bytes ++ rest) (drop-of-length-le line none) ∙ append-nil (lineOf bytes)
 
 module _ (n k : ℕ) (registers line : List ℕ) where
   -- a line that the device does not act on passes unchanged, and no register changes

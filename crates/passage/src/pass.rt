@@ -5,9 +5,9 @@ use hearing::is_place;
 use questions::question::Question;
 use questions::question::WRITEALL;
 use questions::question::WRITEDEVICE;
+use slices::word_or_zero;
 use underway::take_up;
 ghost use mathlib.Core.Path.{_≡_};
-ghost use lib.ListN.{getD};
 ghost use Rattle.passage.specs.Pass.{storeOf, changeAsked, Passed};
 
 // What becomes of the device's registers.
@@ -41,13 +41,6 @@ fn change_asked(q: Question) -> Change
     Change::Nothing
 }
 
-fn register_at(registers: &[u16], reg: u8) -> u16
-    ensures { λ r. ⌜ r ≡ getD (now (registers .entry)) reg 0 ⌝ }
-{
-    let i = reg as usize;
-    if i < registers.len() { registers[i] } else { 0 }
-}
-
 // A device takes the line as it stands and hands it on. It acts only on a line that is some command as the devices before it would have
 // left it; any other line, or one for another device, stays as it was.
 pub fn pass(n: u8, device: u8, registers: &[u16], line: &mut [u16]) -> Change
@@ -57,7 +50,7 @@ pub fn pass(n: u8, device: u8, registers: &[u16], line: &mut [u16]) -> Change
         return Change::Nothing;
     }
     let q = hear(n, device, line);
-    let own = register_at(registers, q.reg);
+    let own = word_or_zero(registers, q.reg as usize);
     let m = carried_by(q.kind, device);
     if !take_up(q, device, own, m, line) {
         return Change::Nothing;

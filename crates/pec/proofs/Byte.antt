@@ -3,9 +3,11 @@ use mathlib.Core.Path.{_≡_, refl, sym, ap, ap₂, _∙_}
 use mathlib.Core.Bool.{Bool, true, _&&_, _||_, cond}
 use mathlib.Core.Logic.{⊎-elim}
 use mathlib.Core.List.{List, [], _∷_}
-use Prim.Native.Nat.{ℕ, suc, _+_, _-_, _*_, _/_, _%_, _^_, _<_}
-use native.Mathlib.Nat.{mod-lt, zero-lt-suc, zero-add, div-le-self}
+use Prim.Native.Nat.{ℕ, suc, _+_, _-_, _*_, _/_, _%_, _^_, _≤_, _<_}
+use native.Mathlib.Nat.{mod-lt, zero-lt-suc, zero-add, div-le-self, mul-le-mul-right}
 use native.Mathlib.Omega.{arith}
+use mir.Syntax.{Width, w32}
+use mir.Val.{Fits, bits}
 use lib.Bits.{bitXor, bitAnd, xor-zero-r, xor-lt, and-le-r}
 use lib.Dec.{eqb, ltb, lit<}
 use lib.ListN.{getD}
@@ -114,6 +116,15 @@ down-lt d e f x =
     let small : q < 256 = omega (arith, and-le-r x 0xFF) in
     let less : (k : ℕ) → q / k < 256 = λ k. omega (arith, div-le-self q k) in
     xor-lt 8 _ (q / f) (xor-lt 8 _ (q / e) (xor-lt 8 q (q / d) small (less d)) (less e)) (less f)
+
+-- a byte folded into a state fits every width, and 32 bits moved up as well
+pub folded-fits : (w : Width) (crc byte : ℕ) → 256 ≤ 2 ^ bits w → crc < 256 → byte < 256 → Fits w (bitXor crc byte)
+folded-fits w crc byte wide small few = record { fits = omega (arith, xor-lt 8 crc byte small few) }
+
+pub up-fits : (crc byte k : ℕ) → crc < 256 → byte < 256 → k ≤ 256 → Fits w32 (bitXor crc byte * k)
+up-fits crc byte k small few near =
+    let byte : bitXor crc byte ≤ 255 = omega (arith, xor-lt 8 crc byte small few) in
+    record { fits = omega (arith, mul-le-mul-right k byte) }
 
 -- Whether these shifts do it, at each of the 256 states, is computed where the code names them.
 module _ (a b c d e f : ℕ) where

@@ -10,7 +10,7 @@ use Rattle.remainder.specs.Register.{times, run, Linear}
 use Rattle.remainder.specs.Turned.{turned}
 use Rattle.remainder.proofs.Linear.{zero-stays, times-linear, run-linear}
 use Rattle.remainder.proofs.Run.{run-next}
-use Rattle.pec.specs.Pec.{bitStep, byteStep}
+use Rattle.pec.specs.Pec.{bitStep, byteStep, pecOf}
 use Rattle.pec.specs.Moved.{moved}
 use Rattle.pec.proofs.Byte.{bit-linear, byte-linear, byte-zero, eightBits}
 
@@ -78,16 +78,10 @@ four-next s l i h =
     next s l i (i + 1) refl (omega arith) ∙ next _ l (i + 1) (i + 2) (omega arith) (omega arith)
     ∙ next _ l (i + 2) (i + 3) (omega arith) (omega arith) ∙ next _ l (i + 3) (i + 4) (omega arith) (omega arith)
 
--- the state folded into the first byte
-folded : (crc x : ℕ) (rest : List ℕ) → run byteStep 0 (bitXor crc x ∷ rest) ≡ run byteStep crc (x ∷ rest)
-unfolding run byteStep
-folded crc x rest = ap (λ (y : ℕ). run byteStep (times 8 bitStep y) rest) (xor-zero-l (bitXor crc x))
-
-pub first-four : (crc : ℕ) (l : List ℕ) → 4 ≤ length l
-    → run byteStep (run byteStep 0 (bitXor crc (getD l 0 0) ∷ getD l 1 0 ∷ getD l 2 0 ∷ getD l 3 0 ∷ [])) (drop 4 l) ≡ run byteStep crc l
-first-four crc l h =
-    ap (λ (s : ℕ). run byteStep s (drop 4 l)) (folded crc (getD l 0 0) (getD l 1 0 ∷ getD l 2 0 ∷ getD l 3 0 ∷ []))
-    ∙ sym (four-next crc l 0 (omega arith))
+pub first-four : (l : List ℕ) → 4 ≤ length l
+    → run byteStep (run byteStep 0 (getD l 0 0 ∷ getD l 1 0 ∷ getD l 2 0 ∷ getD l 3 0 ∷ [])) (drop 4 l) ≡ pecOf l
+unfolding pecOf
+first-four l h = sym (four-next 0 l 0 (omega arith))
 
 pub next-four : (a b c d : ℕ) (l : List ℕ) (i : ℕ) → i + 4 ≤ length l
     → run byteStep

@@ -1,5 +1,5 @@
 -- The packet error check, PEC (data sheet 004, "PEC Errors" with Figure 69; document 01, "The line").
--- This file is all that a reader must believe of it: the polynomial's constant, one bit, one byte, a list of bytes.
+-- What a reader must believe of it: the polynomial's constant, one bit, one byte, a list of bytes; and which table document 01 means.
 use mathlib.Core.Bool.{cond}
 use mathlib.Core.List.{List}
 use Prim.Native.Nat.{ℕ, _/_, _%_}
@@ -24,6 +24,6 @@ byteStep crc byte = times 8 bitStep (bitXor crc byte)
 unfoldable pub pecOf : List ℕ → ℕ
 pecOf bytes = run byteStep 0 bytes
 
--- the remainder of each of the 256 bytes: a byte from the state that it was folded into
+-- the remainder of each of the 256 bytes, as the table that document 01 asks for: eight bits of each
 abbrev pub remainderTable : List ℕ
 remainderTable = tabulated (times 8 bitStep) 256 0

@@ -48,24 +48,17 @@ fn bring_on(table: &[u8; 256], before: u8, byte: u8) -> u8
     table[before as usize] ^ byte
 }
 
-// The PEC of some bytes.
+// The PEC of some bytes. Four bytes at a time are brought on to the next four, which no byte has to wait for; the last four and what is left
+// behind them are taken in one by one.
 pub fn pec(bytes: &[u8]) -> u8
     ensures { λ r. ⌜ r ≡ pecOf (now (bytes .entry)) ⌝ }
 {
-    pec_from(0, bytes)
-}
-
-// The PEC so far, with some more bytes taken in. Four bytes at a time are brought on to the next four, which no byte has to wait for; the last
-// four and what is left behind them are taken in one by one.
-fn pec_from(crc: u8, bytes: &[u8]) -> u8
-    ensures { λ r. ⌜ r ≡ run byteStep crc (now (bytes .entry)) ⌝ }
-{
     let remainders = remainders();
     if bytes.len() < 4 {
-        return take_in_from(&remainders, crc, bytes, 0);
+        return take_in_from(&remainders, 0, bytes, 0);
     }
     let moved = moved_states();
-    let mut a = crc ^ bytes[0];
+    let mut a = bytes[0];
     let mut b = bytes[1];
     let mut c = bytes[2];
     let mut d = bytes[3];

@@ -6,7 +6,7 @@ use Prim.Native.Nat.{ℕ, _+_}
 use lib.Dec.{leb}
 use lib.ListN.{length}
 use lib.Seq.{sets}
-use Rattle.lines.specs.Write.{atFront}
+use Rattle.lines.specs.Write.{atFront, leftBy}
 use Rattle.letters.specs.declared.Standing.{Standing}
 use Rattle.printing.specs.Text.{certificateText}
 use Rattle.printing.specs.declared.Printed.{Printed}
@@ -23,17 +23,16 @@ printedOf n numbers s text =
     (cond (leb (length (certificateText n numbers s)) (length text)) (Bytes (length (certificateText n numbers s))) Room)
     Many
 
--- the lent memory after the call
-unfoldable pub textAfter : (n : ℕ) (numbers : List ℕ) → Standing → (text : List ℕ) → List ℕ
-textAfter n numbers s text =
-    cond (leb (length numbers) mostEntries)
-    (cond (leb (length (certificateText n numbers s)) (length text)) (atFront (certificateText n numbers s) text) text)
-    text
+-- document 01's number of an answer: no job file has more entries, so that too many are FILE
+abbrev pub printedNumber : Printed → ℕ
+printedNumber (Bytes n) = 0
+printedNumber Many = 14
+printedNumber Room = 2
 
 -- what `print` says and leaves
 pub record PrintDone (n : ℕ) (numbers : List ℕ) (s : Standing) (before after : List ℕ) (r : Printed) : Type 0 where
   pub says : r ≡ printedOf n numbers s before
-  pub leaves : after ≡ textAfter n numbers s before
+  pub leaves : after ≡ leftBy (printedNumber (printedOf n numbers s before)) (atFront (certificateText n numbers s) before) before
 
 -- bytes stored from a place on, as far as there is room, and counted
 pub record StoredAt (before : List ℕ) (at : ℕ) (bytes after : List ℕ) (end : ℕ) : Type 0 where

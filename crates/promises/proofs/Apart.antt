@@ -21,7 +21,8 @@ use Rattle.questions.specs.declared.question.Question.{Question}
 use Rattle.questions.proofs.ByKind.{of-read}
 use Rattle.questions.proofs.Good.{good-alive, good-first}
 use Rattle.acceptance.specs.Answer.{Registers, AllValues}
-use Rattle.acceptance.proofs.Wire.{bytes-append, bytes-cons, no-bytes, length-wire, wire-bytes}
+use Rattle.questions.proofs.Wire.{length-wire}
+use Rattle.acceptance.proofs.Wire.{bytes-append, bytes-cons, no-bytes, wire-bytes}
 use Rattle.acceptance.proofs.Sealed.{length-sealed, sealed-bytes}
 use Rattle.promises.specs.Demand3.{AsksAll, answerLine}
 

@@ -1,46 +1,194 @@
--- Demand 1 is met: a contract names what the call answers and what it leaves, so that these two are the one answer and the one memory; and
--- what is turned away has written nothing.
-use mathlib.Core.Path.{_≡_, refl}
-use Prim.Native.Nat.{ℕ}
-use Rattle.promises.specs.Demand1.{TurnedAway, Answers, Demand1}
+-- Demand 1 is met: a contract names what the call answers and what it leaves, so that these two are the one answer and the one memory; its number
+-- is the one due, law by law; and what is turned away has written nothing.
+use mathlib.Core.Path.{_≡_, refl, sym, ap, _∙_, subst}
+use mathlib.Core.Bool.{Bool, true, false, cond}
+use mathlib.Core.Logic.{inl, inr}
+use mathlib.Core.List.{List, [], _∷_}
+use Prim.Native.Nat.{ℕ, zero, suc, _+_, _/_, _%_, _<_}
+use native.Mathlib.Nat.{le-of-suc-le-suc, not-suc-le-zero}
+use native.Mathlib.Omega.{arith}
+use lib.Dec.{leb, lit<}
+use lib.ListN.{length, getD}
+use Rattle.lines.specs.Line.{lineOf}
+use Rattle.lines.specs.Write.{atFront}
+use Rattle.lines.proofs.LeftBy.{left-as-it-was}
+use Rattle.packing.specs.Words.{lineOn}
+use Rattle.writing.specs.PutLine.{putOf, outOf, putNumber, LinePut}
+use Rattle.writing.specs.declared.Put.{Put}
+use Rattle.writing.specs.declared.Put.the-variants as put
+use Rattle.questions.specs.declared.question.Question.{Question}
+use Rattle.readings.specs.Reading.{numberOf}
+use Rattle.commands.specs.Command.{issuedOf, issuedNumber}
+use Rattle.commands.specs.declared.Issued.{Issued}
+use Rattle.commands.specs.declared.Issued.the-variants as issued
+use Rattle.cells.specs.Cell.{cellsFrom, cellsOf, cellNumber}
+use Rattle.cells.specs.declared.Range.{Range}
+use Rattle.cells.specs.declared.Register.{Register}
+use Rattle.cells.specs.declared.Cell.the-variants.{NotMeasured}
+use Rattle.c_reader.specs.ReadBytes.{readingOn, packedReading}
+use Rattle.c_commands.specs.CommandBytes.{packedIssued}
+use Rattle.c_twin.specs.TwinBytes.{powerNumber, stepNumber}
+use Rattle.c_cells.specs.CellsBytes.{cellsNumber}
+use Rattle.promises.specs.ByNumber.{Row, NumberDue}
+use Rattle.promises.specs.Rows.{readRows}
+use Rattle.promises.specs.CallRows.{room, commandRows, powerOnRows, stepBytesRows, cellRows, cellsIntoRows}
+use Rattle.promises.specs.Demand1.{TurnedAway, packedNumber, Answers, Demand1}
+use Rattle.promises.proofs.Rows.{by-number}
+use Rattle.promises.proofs.CallsByNumber.{enough-room, short-of-room, command-due, powered-due, powered-bytes-due, chain-due, step-due}
+use Rattle.promises.proofs.CallsByNumber.{step-bytes-due, cell-due, cell-into-due, cells-into-due}
+use Rattle.promises.proofs.JobNumbers.{opened-by-number, next-by-number, printed-by-number}
+use Rattle.promises.proofs.JobNumbers.{certified-by-number, certificate-bytes-by-number, rehearsed-by-number}
 use Rattle.promises.proofs.RefusedWritesNothing.{refused-read, refused-command, refused-power-on, refused-step}
-use Rattle.promises.proofs.RefusedWritesNothing.{refused-certificate, refused-rehearsal}
-use Rattle.promises.proofs.RefusedBytes.{refused-read-bytes, refused-command-bytes, refused-cell}
+use Rattle.promises.proofs.RefusedWritesNothing.{refused-print, refused-certificate, refused-rehearsal}
+use Rattle.promises.proofs.RefusedBytes.{refused-read-bytes, refused-command-bytes, refused-cell, refused-cells}
 use Rattle.promises.proofs.RefusedBytes.{refused-power-bytes, refused-step-bytes, refused-certificate-bytes}
+use Rattle.promises.proofs.CSidePacked.{apart, small-reading}
 
 -- a contract that names the answer and what is left has one answer
-one : {Answer Memory : Type 0} {number : Answer → ℕ} {before : Memory} {Contract : Memory → Answer → Type 0} {answer : Answer} {leaves : Memory}
-    → Contract leaves answer → ((after : Memory) (r : Answer) → Contract after r → (r ≡ answer) × (after ≡ leaves))
-    → ((after : Memory) (r : Answer) → Contract after r → TurnedAway (number r) → after ≡ before) → Answers number before Contract
-one {answer = answer} {leaves = leaves} meets only refused =
-    record { answer = answer; leaves = leaves; meets = meets; only = only; refused = refused }
+one : {Answer Memory : Type 0} {rows : List Row} {number : Answer → ℕ} {before : Memory} {Contract : Memory → Answer → Type 0} {answer : Answer} {leaves : Memory}
+    → Contract leaves answer → ((after : Memory) (r : Answer) → Contract after r → (r ≡ answer) × (after ≡ leaves)) → NumberDue rows (number answer)
+    → ((after : Memory) (r : Answer) → Contract after r → TurnedAway (number r) → after ≡ before) → Answers rows number before Contract
+one {answer = answer} {leaves = leaves} meets only due refused =
+    record { answer = answer; leaves = leaves; meets = meets; only = only; by-number = due; refused = refused }
 
--- two lent memories, each the same
+-- two or three lent memories, each the same
 both : {A B : Type 0} {a a′ : A} {b b′ : B} → (a ≡ a′) × (b ≡ b′) → _≡_ {A = A × B} (a, b) (a′, b′)
 both same = λ i. (same .0 i, same .1 i)
 
+three : {A B C : Type 0} {a a′ : A} {b b′ : B} {c c′ : C} → (a ≡ a′) × (b ≡ b′) × (c ≡ c′) → _≡_ {A = A × B × C} (a, b, c) (a′, b′, c′)
+three same = λ i. (same .0 i, same .1 i, same .2 i)
+
+nothing : (u : Unit {0}) → u ≡ tt
+nothing tt = refl
+
+-- ---- numbers due that stand in no other file
+
+put-due : (bytes out : List ℕ) → NumberDue (room (length out) (length (lineOf bytes)) ∷ []) (putNumber (putOf bytes out))
+unfolding putOf
+put-due bytes out = by-test (leb (length (lineOf bytes)) (length out)) refl
+  where
+    by-test : (fits : Bool) → leb (length (lineOf bytes)) (length out) ≡ fits
+        → NumberDue (room (length out) (length (lineOf bytes)) ∷ []) (putNumber (cond fits (put.Words (length (lineOf bytes))) put.NoRoom))
+    by-test true fits = enough-room (length out) (length (lineOf bytes)) fits
+    by-test false short = short-of-room (length out) (length (lineOf bytes)) short
+
+refused-put : (bytes out after : List ℕ) (r : Put) → LinePut bytes out after r → TurnedAway (putNumber r) → after ≡ out
+unfolding outOf
+refused-put bytes out after r done away =
+    done .leaves ∙ left-as-it-was (atFront (lineOf bytes) out) out _ (subst (λ (p : Put). TurnedAway (putNumber p)) (done .says) away)
+
+-- a cell for each register
+cells-number : (range : Range) (mask c : ℕ) (registers : List Register) → length (cellsFrom range mask c registers) ≡ length registers
+cells-number range mask c [] = refl
+cells-number range mask c (register ∷ registers) = ap suc (cells-number range mask (c + 1) registers)
+
+-- the twelve, cell after cell
+cells-due : (range : Range) (mask c : ℕ) (registers : List Register) (k : ℕ) → k < length registers
+    → NumberDue (cellRows mask (c + k) (getD registers k (record { 0 = 0 }) .0)) (cellNumber (getD (cellsFrom range mask c registers) k NotMeasured))
+cells-due range mask c [] k below = absurd (not-suc-le-zero below)
+cells-due range mask c (register ∷ registers) zero below =
+    subst (λ (x : ℕ). NumberDue (cellRows mask x (register .0)) (cellNumber (getD (cellsFrom range mask c (register ∷ registers)) 0 NotMeasured)))
+    (omega arith) (cell-due range mask c (register .0))
+cells-due range mask c (register ∷ registers) (suc k) below =
+    subst (λ (x : ℕ). NumberDue (cellRows mask x (getD registers k (record { 0 = 0 }) .0))
+    (cellNumber (getD (cellsFrom range mask c (register ∷ registers)) (suc k) NotMeasured))) (omega arith)
+    (cells-due range mask (c + 1) registers k (le-of-suc-le-suc below))
+
+-- packed, the number stands in the lowest eight bits
+read-bytes-due : (q : Question) (line out : List ℕ)
+    → NumberDue (readRows q (lineOn line) (length out / 2)) (packedNumber (packedReading (readingOn q line out)))
+unfolding readingOn
+read-bytes-due q line out =
+    subst (NumberDue (readRows q (lineOn line) (length out / 2))) (sym (apart (readingOn q line out) (small-reading q line out) .number))
+    (by-number q (lineOn line) (length out / 2))
+
+command-bytes-due : (q : Question) (lent : ℕ) → NumberDue (commandRows q lent) (packedNumber (packedIssued (issuedOf q lent)))
+command-bytes-due q lent = subst (NumberDue (commandRows q lent)) (sym (own-number (issuedOf q lent))) (command-due q lent)
+  where
+    own-number : (i : Issued) → packedNumber (packedIssued i) ≡ issuedNumber i
+    own-number (issued.Words n) = omega arith
+    own-number issued.Question = refl
+    own-number issued.Room = refl
+
+-- a row's number is below 256, and so its own lowest eight bits
+abbrev Small : List Row → Type 0
+Small [] = Unit
+Small (first ∷ rows) = (first .number < 256) × Small rows
+
+below-256 : (rows : List Row) (number : ℕ) → Small rows → NumberDue rows number → number < 256
+below-256 [] number small due = omega (arith, due)
+below-256 (first ∷ rows) number small (inl due) = omega (arith, small .0, due .1)
+below-256 (first ∷ rows) number small (inr due) = below-256 rows number (small .1) (due .1)
+
+small-due : (rows : List Row) (number : ℕ) → Small rows → NumberDue rows number → NumberDue rows (packedNumber number)
+small-due rows number small due =
+    let is : number < 256 = below-256 rows number small due in
+    let same : number ≡ number % 256 = omega arith in subst (NumberDue rows) same due
+
 pub demand-1 : Demand1
+unfolding cellsOf
 demand-1 = record {
-  read = λ q line out. one (record { says = refl; leaves = refl }) (λ after r done. (done .says, done .leaves)) (refused-read q line out);
-  write-command = λ q out. one (record { says = refl; leaves = refl }) (λ after r done. (done .says, done .leaves)) (refused-command q out);
-  power-on = λ n memory. one (record { says = refl; leaves = refl }) (λ after r done. (done .says, done .leaves)) (refused-power-on n memory);
+  read = λ q line out.
+      one (record { says = refl; leaves = refl }) (λ after r done. (done .says, done .leaves)) (by-number q line (length out)) (refused-read q line out);
+  register-part = λ q line device. one refl (λ after r done. (done, nothing after)) refl (λ after r done away. nothing after);
+  write-command = λ q out.
+      one (record { says = refl; leaves = refl }) (λ after r done. (done .says, done .leaves)) (command-due q (length out)) (refused-command q out);
+  put-line = λ bytes out.
+      one (record { says = refl; leaves = refl }) (λ after r done. (done .says, done .leaves)) (put-due bytes out) (refused-put bytes out);
+  read-cell = λ range mask c register.
+      one refl (λ after r done. (done, nothing after)) (cell-due range mask c register) (λ after r done away. nothing after);
+  read-cells = λ range mask registers. cells-number range mask 1 registers;
+  each-cell = λ range mask registers k below.
+      one refl (λ after r done. (done, nothing after))
+      (subst (λ (x : ℕ). NumberDue (cellRows mask x (getD registers k (record { 0 = 0 }) .0))
+      (cellNumber (getD (cellsFrom range mask 1 registers) k NotMeasured))) (omega arith) (cells-due range mask 1 registers k below))
+      (λ after r done away. nothing after);
+  power-on = λ n memory.
+      one (record { says = refl; leaves = refl }) (λ after r done. (done .says, done .leaves)) (powered-due n memory) (refused-power-on n memory);
   step = λ n device memory line out.
       one (record { says = refl; remembers = refl; leaves = refl }) (λ after r done. (done .says, both (done .remembers, done .leaves)))
-      (λ after r done away. both (refused-step _ _ _ out (after .1) (after .0) r done away));
+      (step-due n device memory line out) (λ after r done away. both (refused-step _ _ _ out (after .1) (after .0) r done away));
   run-chain = λ n memory line out.
       one (record { says = refl; remembers = refl; leaves = refl }) (λ after r done. (done .says, both (done .remembers, done .leaves)))
-      (λ after r done away. both (refused-step _ _ _ out (after .1) (after .0) r done away));
-  certify = λ file text. one (record { says = refl; leaves = refl }) (λ after r done. (done .says, done .leaves)) (refused-certificate file text);
-  rehearse = λ file out. one (record { says = refl; leaves = refl }) (λ after r done. (done .says, done .leaves)) (refused-rehearsal file out);
-  read-bytes = λ q line out. one (record { says = refl; leaves = refl }) (λ after r done. (done .says, done .leaves)) (refused-read-bytes q line out);
-  command-bytes = λ q out. one (record { says = refl; leaves = refl }) (λ after r done. (done .says, done .leaves)) (refused-command-bytes q out);
+      (chain-due n memory line out) (λ after r done away. both (refused-step _ _ _ out (after .1) (after .0) r done away));
+  open-file = λ file small.
+      one refl (λ after r done. (done, nothing after)) (opened-by-number file small) (λ after r done away. nothing after);
+  next-entry = λ h file c. one refl (λ after r done. (done, nothing after)) (next-by-number h file c) (λ after r done away. nothing after);
+  print = λ n numbers s text.
+      one (record { says = refl; leaves = refl }) (λ after r done. (done .says, done .leaves)) (printed-by-number n numbers s text)
+      (refused-print n numbers s text);
+  certify = λ file text small.
+      one (record { says = refl; leaves = refl }) (λ after r done. (done .says, done .leaves)) (certified-by-number file text small)
+      (refused-certificate file text);
+  rehearse = λ file out small.
+      one (record { says = refl; leaves = refl }) (λ after r done. (done .says, done .leaves)) (rehearsed-by-number file out small)
+      (refused-rehearsal file out);
+  read-bytes = λ q line out.
+      one (record { says = refl; leaves = refl }) (λ after r done. (done .says, done .leaves)) (read-bytes-due q line out) (refused-read-bytes q line out);
+  pec = λ bytes. one refl (λ after r done. (done, nothing after)) refl (λ after r done away. nothing after);
+  part-bytes = λ q device line. one refl (λ after r done. (done, nothing after)) refl (λ after r done away. nothing after);
+  command-bytes = λ q out.
+      one (record { says = refl; leaves = refl }) (λ after r done. (done .says, done .leaves)) (command-bytes-due q (length out / 2))
+      (refused-command-bytes q out);
   cell-into = λ cell enabled register bipolar microvolts volts.
       one (record { says = refl; microvolts = refl; volts = refl }) (λ after r done. (done .says, both (done .microvolts, done .volts)))
+      (cell-into-due cell enabled register bipolar)
       (λ after r done away. both (refused-cell cell enabled register bipolar microvolts (after .0) volts (after .1) r done away));
-  power-on-bytes = λ n memory. one (record { says = refl; leaves = refl }) (λ after r done. (done .says, done .leaves)) (refused-power-bytes n memory);
+  cells-into = λ enabled bipolar registers microvolts volts answers.
+      one (record { says = refl; microvolts = refl; volts = refl; answers = refl })
+      (λ after r done. (done .says, three (done .microvolts, done .volts, done .answers)))
+      (small-due (cellsIntoRows bipolar (length registers) (length microvolts) (length volts) (length answers))
+      (cellsNumber bipolar registers microvolts volts answers) (lit< tt, (lit< tt, (lit< tt, tt))) (cells-into-due bipolar registers microvolts volts answers))
+      (λ after r done away. three (refused-cells enabled bipolar registers microvolts (after .0) volts (after .1) answers (after .2) r done away));
+  power-on-bytes = λ n memory.
+      one (record { says = refl; leaves = refl }) (λ after r done. (done .says, done .leaves))
+      (small-due (powerOnRows 512 n (length memory)) (powerNumber n (length memory)) (lit< tt, tt) (powered-bytes-due n (length memory))) (refused-power-bytes n memory);
   step-bytes = λ n device memory line out.
       one (record { says = refl; remembers = refl; leaves = refl }) (λ after r done. (done .says, both (done .remembers, done .leaves)))
+      (small-due (stepBytesRows n device (length memory) (length out) (length line)) (stepNumber n device memory line out) (lit< tt, (lit< tt, (lit< tt, tt)))
+      (step-bytes-due n device memory line out))
       (λ after r done away. both (refused-step-bytes n device memory (after .0) line out (after .1) r done away));
-  certificate-bytes = λ file text.
-      one (record { says = refl; leaves = refl }) (λ after r done. (done .says, done .leaves)) (refused-certificate-bytes file text);
+  certificate-bytes = λ file text small.
+      one (record { says = refl; leaves = refl }) (λ after r done. (done .says, done .leaves))
+      (certificate-bytes-by-number file text _ _ small (record { says = refl; leaves = refl })) (refused-certificate-bytes file text);
 }

@@ -1,13 +1,10 @@
 -- Demand 2 is met. The command writer's answer tells whether its question was good and had room. What the reader accepts is a right answer's
--- line, and every right answer's line is accepted: the laws of `acceptance`, said of the call with its output. A letter is the deserved one by
--- the law of `letters`, on the entries of a file.
-use mathlib.Core.Path.{_≡_, sym, ap, _∙_}
-use mathlib.Core.Bool.{Bool, true, false, cond, _&&_}
+-- line, and every right answer's line is accepted: the laws of `acceptance`, said of the call with its output.
+use mathlib.Core.Path.{_≡_, sym, ap, _∙_, subst}
 use mathlib.Core.List.{List}
-use Prim.Native.Nat.{ℕ, _<_}
+use Prim.Native.Nat.{ℕ}
 use native.Mathlib.Nat.{le-refl}
 use native.Mathlib.Omega.{arith}
-use lib.Dec.{leb}
 use lib.ListN.{length}
 use Rattle.lines.specs.Line.{byteAt, bytesOf}
 use Rattle.lines.proofs.Line.{bytes-at}
@@ -22,35 +19,33 @@ use Rattle.commands.specs.declared.Issued.the-variants.{Words, Question, Room}
 use Rattle.commands.proofs.Issuing.{issued-good, issued-words, command-written}
 use Rattle.readings.specs.Reading.{numberOf}
 use Rattle.reader.specs.Read.{ReadDone}
-use Rattle.readings.specs.declared.Refusal.the-variants.{Count}
 use Rattle.readings.specs.declared.Reading.{Reading}
-use Rattle.readings.specs.declared.Reading.the-variants.{Counted, Refused}
-use Rattle.contents.specs.Rows.{byteIn, settledCount}
-use Rattle.contents.proofs.RowLaws.{hello-settled}
-use Rattle.judging.proofs.Accepted.{taken-settles, accepted-takes}
+use Rattle.readings.specs.declared.Reading.the-variants.{Counted}
+use Rattle.contents.specs.Rows.{byteIn}
+use Rattle.contents.proofs.RowLaws.{hello-taken}
+use Rattle.judging.proofs.Accepted.{taken-reads, accepted-takes}
 use Rattle.acceptance.specs.Answer.{Sendable}
 use Rattle.acceptance.proofs.Lengths.{command-words}
 use Rattle.acceptance.proofs.AcceptedIsAnAnswer.{accepted-is-an-answer}
 use Rattle.acceptance.proofs.AnswerIsAccepted.{answer-is-accepted, accepted-reading}
-use Rattle.letters.specs.Letters.{Heard}
-use Rattle.letters.specs.Meaning.{Deserves, holds, differs, unread}
-use Rattle.letters.proofs.Meaning.{given-is-deserved, deserved-is-given, no-write-no-letter}
-use Rattle.certificate.specs.Certificate.{heardIn}
+use Rattle.promises.specs.ByNumber.{NumberDue}
+use Rattle.promises.specs.Rows.{readRows}
 use Rattle.promises.specs.Demand2.{CommandDue, CommandOut, Accepted, Due, With, Demand2}
-use Rattle.promises.proofs.OwnLetter.{own-letter}
+use Rattle.promises.proofs.Certificate.{printed-certificate}
+use Rattle.promises.proofs.Rows.{by-number, carried}
 
 -- ---- commands
 
 written : (q : asked.Question) (before after : List ℕ) (r : Issued) → CommandPut q before after r → CommandDue q before → CommandOut q before after r
 written q before after r done due = record {
-  words = done .says ∙ issued-good q before (due .good) (omega arith);
+  words = done .says ∙ issued-good q (length before) (due .good) (omega arith);
   line = command-written q before after r done (due .good) (omega arith);
 }
 
 was-due : (q : asked.Question) (before after : List ℕ) (r : Issued) → CommandPut q before after r → issuedNumber r ≡ 0 → CommandDue q before
 was-due q before after (Words n) done none =
-    let i = issued-words q before n (sym (done .says)) in
-    record { good = i .good; room = omega (arith, i .room) }
+    let i = issued-words q (length before) n (sym (done .says)) in
+    record { good = i .good; room = omega (arith, i .fits) }
 was-due q before after Question done none = absurd (omega arith)
 was-due q before after Room done none = absurd (omega arith)
 
@@ -80,24 +75,10 @@ module _ (q : asked.Question) (line before after : List ℕ) (r : Reading) (done
       )
 
   hello-count : q .kind ≡ helloAll → Accepted r → r ≡ Counted (byteAt line 2)
-  unfolding settledCount
   hello-count hello accepted =
       let taken = accepted-takes q line (length before) (ap numberOf (sym (done .says)) ∙ accepted) in
       let third : byteIn (bytesOf line) 2 ≡ byteAt line 2 = bytes-at line 2 (omega (arith, taken .words, ap (λ s. s .words) (hello-shape q hello))) in
-      let settles = done .says ∙ taken-settles q line (length before) taken ∙ sym (hello-settled q (bytesOf line) hello) ∙ ap settledCount third in
-      by-count (leb 1 (byteAt line 2) && leb (byteAt line 2) 32) settles
-    where
-      by-count : (t : Bool) → r ≡ cond t (Counted (byteAt line 2)) (Refused (Count (byteAt line 2))) → r ≡ Counted (byteAt line 2)
-      by-count true e = e
-      by-count false e = absurd (omega (arith, accepted, ap numberOf e))
-
--- ---- letters
-
--- a device that deserves a letter is covered by a good write, and so is below 32
-deserving-below : {es : List Heard} {a letter : ℕ} → Deserves es a letter → a < 32
-deserving-below {a = a} (holds w covered r same) = own-letter .covered-below (w .entry .question) (w .passes) a covered
-deserving-below {a = a} (differs w covered r other) = own-letter .covered-below (w .entry .question) (w .passes) a covered
-deserving-below {a = a} (unread w covered silent) = own-letter .covered-below (w .entry .question) (w .passes) a covered
+      done .says ∙ taken-reads q line (length before) taken ∙ sym (hello-taken q (bytesOf line) hello) ∙ ap Counted third
 
 pub demand-2 : Demand2
 demand-2 = record {
@@ -106,13 +87,12 @@ demand-2 = record {
   only-then = only-then;
   always-then = always-then;
   hello-count = hello-count;
-  by-rows = λ q line before after r done. done .says;
+  by-rows = λ q line before after r done. subst (NumberDue (readRows q line (length before))) (sym (ap numberOf (done .says))) (by-number q line (length before));
+  carried = λ q line before after r done why is. carried q line (length before) why (sym (done .says) ∙ is);
   equal-length = λ q good s values line answer.
       let room = shapeOf q .values in
       let a = answer-is-accepted q good s room (le-refl room) values line answer in
       let taken = accepted-takes q line room (ap numberOf (a .0) ∙ accepted-reading q values (answer .fitting)) in
       (taken .words ∙ sym (command-words q good), omega (arith, taken .words, words-most q good));
-  given-only-then = λ file a letter given. given-is-deserved (heardIn file) a letter (own-letter .lettered-below file a (given .covered)) given;
-  given-always-then = λ file a letter deserved. deserved-is-given (heardIn file) a letter (deserving-below deserved) deserved;
-  no-write = λ file. no-write-no-letter (heardIn file);
+  certificate = printed-certificate;
 }

@@ -8,7 +8,7 @@ use lib.Dec.{ltb}
 use lib.ListN.{length}
 use borrow.Author.Tests.{le-leb, lt-ltb, eq-eqb}
 use Rattle.registers.specs.Memory.{isChain}
-use Rattle.twin.specs.Step.{registersOf, standing, hop}
+use Rattle.twin.specs.Step.{registersOf, chainWith, hop}
 use Rattle.twin.proofs.Registers.{hop-other}
 use Rattle.twin.proofs.Stepping.{says-handed, leaves-line, leaves-memory, hop-length}
 use Rattle.roundtrip.proofs.NothingByAccident.{by-its-rule, no-command-no-change}
@@ -20,7 +20,7 @@ is-a-chain n memory least most words = simp (le-leb 1 n least, le-leb n 32 most,
 
 pub each-step : EachStep
 each-step n k memory memoryLeft line out outAfter r least most within words room done =
-    let s = standing memory line in
+    let s = chainWith memory line in
     let chain = is-a-chain n memory (omega arith) (omega arith) (omega arith) in
     let fits : (isChain n (length memory) && ltb k n) ≡ true = simp (chain, lt-ltb k n (omega arith)) in
     let left = leaves-memory s (hop n k s) out outAfter memoryLeft r _ done fits room in

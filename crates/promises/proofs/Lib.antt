@@ -1,7 +1,16 @@
+pub mod ByNumber
+pub mod RowsGiven
+pub mod Rows
+pub mod CallsByNumber
+pub mod JobNumbers
 pub mod RefusedWritesNothing
 pub mod RefusedBytes
+pub mod CSidePacked
 pub mod Demand1
 pub mod OwnLetter
+mod LinesInOrder
+mod OneText
+pub mod Certificate
 pub mod Demand2
 pub mod Apart
 pub mod Demand3
@@ -13,3 +22,9 @@ pub mod WhereItEnds
 pub mod EachStep
 pub mod RoundTrip
 pub mod StarredNumbers
+pub mod SecondCall
+mod CSideLine
+pub mod CSideCommands
+pub mod CSideAnswers
+mod BytesTurned
+pub mod CSideDamage

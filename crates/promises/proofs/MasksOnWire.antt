@@ -19,9 +19,10 @@ use Rattle.remainder.proofs.Turned.{length-turned, distance-turned}
 use Rattle.pec.specs.Pec.{byteStep}
 use Rattle.pec.specs.Distance.{apartBy}
 use Rattle.pec.proofs.Byte.{byte-linear}
+use Rattle.packing.specs.Words.{asBytes}
 use Rattle.questions.specs.Bytes.{lowHigh, onWire}
 use Rattle.acceptance.specs.Answer.{Registers}
-use Rattle.acceptance.proofs.Wire.{length-wire}
+use Rattle.questions.proofs.Wire.{length-wire, wire-cons}
 use Rattle.promises.proofs.Apart.{varied, length-varied}
 
 -- ---- turning over bits of the values turns over the same bits on the wire
@@ -34,14 +35,15 @@ turned-append (x ∷ xs) ys [] ns e = absurd (omega arith)
 turned-append (x ∷ xs) ys (m ∷ ms) ns e = ap (λ (l : List ℕ). bitXor x m ∷ l) (turned-append xs ys ms ns (suc-inj e))
 
 wire-turned : (values masks : List ℕ) → length values ≡ length masks → onWire (turned values masks) ≡ turned (onWire values) (onWire masks)
-unfolding turned onWire
+unfolding turned onWire asBytes
 wire-turned [] [] e = refl
 wire-turned [] (m ∷ masks) e = absurd (omega arith)
 wire-turned (v ∷ values) [] e = absurd (omega arith)
 wire-turned (v ∷ values) (m ∷ masks) e =
     let same : length (onWire values) ≡ length (onWire masks) = omega (arith, length-wire values, length-wire masks) in
-    ap₂ _++_ (wire-turned values masks (suc-inj e)) (ap₂ (λ (x y : ℕ). x ∷ y ∷ []) (xor-mod v m 8) (xor-shr v m 8))
-    ∙ sym (turned-append (onWire values) (lowHigh v) (onWire masks) (lowHigh m) same)
+    wire-cons (bitXor v m) (turned values masks)
+    ∙ ap₂ _++_ (wire-turned values masks (suc-inj e)) (ap₂ (λ (x y : ℕ). x ∷ y ∷ []) (xor-mod v m 8) (xor-shr v m 8))
+    ∙ sym (ap₂ turned (wire-cons v values) (wire-cons m masks) ∙ turned-append (onWire values) (lowHigh v) (onWire masks) (lowHigh m) same)
 
 pub varied-turned : (values masks : List ℕ) → length values ≡ length masks → varied (turned values masks) ≡ turned (varied values) (varied masks)
 unfolding turned

@@ -1,23 +1,22 @@
--- No device speaks for another: the letters' own law, on the entries of a file. And a good write covers devices of its chain alone: WRITEALL
+-- No device speaks for another: the letters' own law, on what is heard of two jobs. And a good write covers devices of its chain alone: WRITEALL
 -- those below n, WRITEDEVICE one below n, and n is 32 at most.
-use mathlib.Core.Path.{_≡_, refl, sym, ap, _∙_}
-use mathlib.Core.Bool.{Bool, true, false, _||_, false≢true}
+use mathlib.Core.Path.{_≡_, sym, ap, _∙_}
+use mathlib.Core.Bool.{true, _||_}
 use mathlib.Core.Logic.{⊎-elim, inl}
-use mathlib.Core.List.{List, [], _∷_}
+use mathlib.Core.List.{List}
 use Prim.Native.Nat.{ℕ, _<_, _≤_}
 use native.Mathlib.Omega.{arith}
 use lib.Dec.{eqb}
+use lib.ListN.{getD}
 use borrow.Author.Tests.{eqb-true, ltb-true}
 use Rattle.ground.proofs.Test.{and-left, and-right, or-cases}
 use Rattle.questions.specs.Question.{writeAll, writeDevice, goodQuestion, coversAt, covers}
 use Rattle.questions.specs.declared.question.Question.{Question}
 use Rattle.questions.proofs.Good.{good-count, good-device}
-use Rattle.letters.specs.Letters.{Heard, isGoodWrite, begun, heardFrom}
-use Rattle.letters.specs.Meaning.{goodWrite}
-use Rattle.letters.specs.declared.Standing.{Standing}
-use Rattle.letters.proofs.Entry.{heard, good-write-starts-anew, other-entry-keeps-write}
+use Rattle.letters.specs.Letters.{Heard, isGoodWrite, standingAfter}
+use Rattle.letters.specs.Meaning.{Deserves, holds, differs, unread}
+use Rattle.letters.proofs.Meaning.{given-is-deserved, deserved-is-given}
 use Rattle.letters.proofs.OwnView.{own-view}
-use Rattle.certificate.specs.Certificate.{heardIn}
 use Rattle.promises.specs.OwnLetter.{OwnLetter}
 
 -- what a good write covers is a device of its chain
@@ -35,27 +34,35 @@ covered-in-chain q write a covered =
     (omega (arith, good-device q good (inl one)), good-count q good (omega arith) .1))
     (or-cases (eqb (q .kind) writeAll) (eqb (q .kind) writeDevice) (and-left _ (goodQuestion q) write))
 
--- so is what the write covers that stands after some entries, where it was so before them
-standing-in-chain : (s : Standing) (es : List Heard) → ((a : ℕ) → covers (s .write) a ≡ true → a < 32)
-    → (a : ℕ) → covers (heardFrom s es .write) a ≡ true → a < 32
-unfolding heardFrom
-standing-in-chain s [] below = below
-standing-in-chain s (e ∷ es) below = standing-in-chain (heard s e) es (by-test (goodWrite e) refl)
-  where
-    by-test : (t : Bool) → goodWrite e ≡ t → (a : ℕ) → covers (heard s e .write) a ≡ true → a < 32
-    by-test true good a covered =
-        let anew = ap (λ (s : Standing). covers (s .write) a) (good-write-starts-anew s e good) in
-        let chain = covered-in-chain (e .question) good a (sym anew ∙ covered) in
-        omega (arith, chain .0, chain .1)
-    by-test false other a covered = below a (sym (ap (λ (q : Question). covers q a) (other-entry-keeps-write s e other)) ∙ covered)
+covered-below : (q : Question) → isGoodWrite q ≡ true → (a : ℕ) → covers q a ≡ true → a < 32
+covered-below q write a covered = let chain = covered-in-chain q write a covered in omega (arith, chain .0, chain .1)
 
-none-at-first : (a : ℕ) → covers (begun .write) a ≡ true → a < 32
-unfolding covers
-none-at-first a covered = absurd (false≢true covered)
+-- so is what deserves a letter
+pub deserving-below : {xs : List Heard} {a letter : ℕ} → Deserves xs a letter → a < 32
+deserving-below {a = a} (holds w covered r same) = covered-below (w .entry .question) (w .passes) a covered
+deserving-below {a = a} (differs w covered r other) = covered-below (w .entry .question) (w .passes) a covered
+deserving-below {a = a} (unread w covered silent) = covered-below (w .entry .question) (w .passes) a covered
+
+-- what is deserved in one job is deserved in the other
+deserves-alike : (a v : ℕ) (xs xs′ : List Heard) → (covers (standingAfter xs .write) a ≡ covers (standingAfter xs′ .write) a)
+    → (getD (standingAfter xs .letters) a 0 ≡ getD (standingAfter xs′ .letters) a 0) → Deserves xs a v → Deserves xs′ a v
+deserves-alike a v xs xs′ covered letter due =
+    let below = deserving-below due in
+    let given = deserved-is-given xs a v below due in
+    given-is-deserved xs′ a v below (record { covered = sym covered ∙ given .covered; stands = sym letter ∙ given .stands })
 
 pub own-letter : OwnLetter
 own-letter = record {
-  own = λ file file′ a inside alike. own-view a inside (heardIn file) (heardIn file′) alike;
-  covered-below = λ q write a covered. let chain = covered-in-chain q write a covered in omega (arith, chain .0, chain .1);
-  lettered-below = λ file a covered. omega (arith, standing-in-chain begun (heardIn file) none-at-first a covered);
+  own = λ h h′ es es′ text text′ c c′ a alike v. (
+    λ there.
+        let due = c .deserved a v there in
+        let same = own-view a (deserving-below due) (c .heard) (c′ .heard) alike in
+        c′ .every a v (deserves-alike a v (c .heard) (c′ .heard) (same .0) (same .1) due),
+    λ there.
+        let due = c′ .deserved a v there in
+        let same = own-view a (deserving-below due) (c .heard) (c′ .heard) alike in
+        c .every a v (deserves-alike a v (c′ .heard) (c .heard) (sym (same .0)) (sym (same .1)) due),
+  );
+  covered-below = covered-below;
+  lettered-below = λ h es text c a v there. deserving-below (c .deserved a v there);
 }

@@ -3,24 +3,22 @@
 use mathlib.Core.Path.{_≡_, refl, ap, _∙_}
 use mathlib.Core.Bool.{Bool, true, false, cond}
 use mathlib.Core.List.{List}
-use Prim.Native.Nat.{ℕ, _*_}
+use Prim.Native.Nat.{ℕ, _/_, _≤_}
 use native.Mathlib.Omega.{arith}
 use lib.Dec.{eqb}
 use lib.IntN.{ℤ}
 use lib.Ieee.{Float}
 use lib.ListN.{length}
-use borrow.Author.Tests.{ne-eqb}
-use Rattle.ground.specs.Sweep.{tabulated}
 use Rattle.lines.specs.Write.{atFront}
-use Rattle.packing.specs.Words.{asBytes}
+use Rattle.lines.proofs.LeftBy.{left-as-it-was}
+use Rattle.packing.specs.Words.{asBytes, lineOn}
 use Rattle.questions.specs.declared.question.Question as asked
 use Rattle.readings.specs.Reading.{valuesTaken}
 use Rattle.readings.specs.declared.Reading.{Reading}
 use Rattle.readings.specs.declared.Reading.the-variants.{Counted, Written, Values, Refused}
 use Rattle.reader.specs.Read.{valuesOn}
-use Rattle.commands.specs.declared.Issued.{Issued}
-use Rattle.commands.specs.declared.Issued.the-variants.{Words, Question, Room}
-use Rattle.registers.specs.Memory.{fresh}
+use Rattle.commands.specs.Command.{commandLine, issuedOf, issuedNumber}
+use Rattle.registers.specs.Memory.{powerOnMemory}
 use Rattle.certificate.specs.Certificate.{certifiedOf, certifiedNumber}
 use Rattle.certificate.specs.declared.Certified.{Certified}
 use Rattle.certificate.specs.declared.Certified.the-variants as certified
@@ -29,10 +27,11 @@ use Rattle.cells.specs.declared.Range.{Range}
 use Rattle.cells.specs.declared.Range.the-variants.{Unipolar, Bipolar}
 use Rattle.cells.specs.declared.Cell.{Cell}
 use Rattle.cells.specs.declared.Cell.the-variants as cell
-use Rattle.c_reader.specs.ReadBytes.{lineOn, readingOn, packedReading, ReadBytesDone}
-use Rattle.c_commands.specs.CommandBytes.{packedIssued, issuedInto, wordsOut, CommandBytesDone}
+use Rattle.c_reader.specs.ReadBytes.{readingOn, packedReading, ReadBytesDone}
+use Rattle.c_commands.specs.CommandBytes.{CommandBytesDone}
 use Rattle.c_cells.specs.CellBytes.{packedCell, microvoltsOr, voltsOr, answerOf, microvoltsLeft, voltsLeft, CellDone}
-use Rattle.c_twin.specs.TwinBytes.{chainIn, stepNumber, PowerBytesDone, StepBytesDone}
+use Rattle.c_cells.specs.CellsBytes.{cellsNumber, cellsRead, byCell, packedOr, CellsDone}
+use Rattle.c_twin.specs.TwinBytes.{powerNumber, stepNumber, stepped, PowerBytesDone, StepBytesDone}
 use Rattle.bmc.specs.Exports.{packedCertified, CertificateBytesDone}
 use Rattle.promises.specs.Demand1.{TurnedAway, packedNumber}
 use Rattle.promises.proofs.RefusedWritesNothing.{refused-certificate}
@@ -51,13 +50,8 @@ refused-read-bytes q line before after r done away =
 
 pub refused-command-bytes : (q : asked.Question) (before after : List ℕ) (r : ℕ) → CommandBytesDone q before after r
     → TurnedAway (packedNumber r) → after ≡ before
-unfolding asBytes
-refused-command-bytes q before after r done away = done .leaves ∙ nothing-out (issuedInto q before) (done .says)
-  where
-    nothing-out : (i : Issued) → r ≡ packedIssued i → atFront (asBytes (wordsOut i q)) before ≡ before
-    nothing-out (Words n) e = absurd (omega arith)
-    nothing-out Question e = refl
-    nothing-out Room e = refl
+refused-command-bytes q before after r done away =
+    done .leaves ∙ left-as-it-was (atFront (asBytes (commandLine q)) before) before (issuedNumber (issuedOf q (length before / 2))) (omega (arith, done .says))
 
 pub refused-cell : (c enabled register bipolar : ℕ) (microvolts microvoltsAfter : ℤ) (volts voltsAfter : Float) (r : ℕ)
     → CellDone c enabled register bipolar microvolts microvoltsAfter volts voltsAfter r → TurnedAway (packedNumber r)
@@ -81,19 +75,29 @@ refused-cell c enabled register bipolar microvolts microvoltsAfter volts voltsAf
     by-range false true e = by-cell (of Bipolar) e
     by-range false false e = (refl, refl)
 
+pub refused-cells : (enabled bipolar : ℕ) (registers : List ℕ) (microvolts microvoltsAfter : List ℤ) (volts voltsAfter : List Float)
+    (answers answersAfter : List ℕ) (r : ℕ) → CellsDone enabled bipolar registers microvolts microvoltsAfter volts voltsAfter answers answersAfter r
+    → TurnedAway (packedNumber r) → (microvoltsAfter ≡ microvolts) × (voltsAfter ≡ volts) × (answersAfter ≡ answers)
+refused-cells enabled bipolar registers microvolts microvoltsAfter volts voltsAfter answers answersAfter r done away =
+    let number = cellsNumber bipolar registers microvolts volts answers in
+    let cells = cellsRead enabled bipolar registers in
+    let row : 1 ≤ number = omega (arith, done .says) in (
+      done .microvolts ∙ left-as-it-was (byCell microvoltsOr cells microvolts) microvolts number row,
+      done .volts ∙ left-as-it-was (byCell voltsOr cells volts) volts number row,
+      done .answers ∙ left-as-it-was (byCell packedOr cells answers) answers number row,
+    )
+
 pub refused-power-bytes : (n : ℕ) (before after : List ℕ) (r : ℕ) → PowerBytesDone n before after r → TurnedAway (packedNumber r) → after ≡ before
-refused-power-bytes n before after r done away = done .leaves ∙ by-test (chainIn n (length before)) (done .says)
-  where
-    by-test : (fits : Bool) → r ≡ cond fits 0 15 → cond fits (asBytes (tabulated fresh (256 * n) 0)) before ≡ before
-    by-test true e = absurd (omega arith)
-    by-test false e = refl
+refused-power-bytes n before after r done away =
+    done .leaves ∙ left-as-it-was (asBytes (powerOnMemory n)) before (powerNumber n (length before)) (omega (arith, done .says))
 
 pub refused-step-bytes : (n k : ℕ) (memory memoryLeft line out outAfter : List ℕ) (r : ℕ) → StepBytesDone n k memory memoryLeft line out outAfter r
     → TurnedAway (packedNumber r) → (memoryLeft ≡ memory) × (outAfter ≡ out)
 refused-step-bytes n k memory memoryLeft line out outAfter r done away =
-    let number = stepNumber n k (length memory) (length line) (length out) in
-    let not-done : eqb number 0 ≡ false = ne-eqb number 0 (λ (e : number ≡ 0). omega (arith, done .says)) in
-    (done .remembers ∙ simp not-done, done .leaves ∙ simp not-done)
+    let row : 1 ≤ stepNumber n k memory line out = omega (arith, done .says) in (
+      done .remembers ∙ left-as-it-was (asBytes (stepped n k memory line .memory)) memory _ row,
+      done .leaves ∙ left-as-it-was (atFront (asBytes (stepped n k memory line .line)) out) out _ row,
+    )
 
 pub refused-certificate-bytes : (file before after : List ℕ) (r : ℕ) → CertificateBytesDone file before after r
     → TurnedAway (packedNumber r) → after ≡ before

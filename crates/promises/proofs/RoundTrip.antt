@@ -1,6 +1,6 @@
 -- The round trip: through the chain by `roundtrip`'s laws on all hops, said of the call; and back by demand 2, since what came of it is a right
 -- answer's line.
-use mathlib.Core.Path.{_≡_, ap, _∙_, subst}
+use mathlib.Core.Path.{_≡_, sym, ap, _∙_, subst}
 use mathlib.Core.List.{List}
 use Prim.Native.Nat.{ℕ, _≤_}
 use native.Mathlib.Omega.{arith}
@@ -12,11 +12,11 @@ use Rattle.commands.specs.declared.Issued.{Issued}
 use Rattle.questions.specs.declared.question.Question.{Question}
 use Rattle.readings.specs.declared.Reading.{Reading}
 use Rattle.reader.specs.Read.{ReadDone}
-use Rattle.twin.specs.Step.{standing, hops, ChainDone}
+use Rattle.twin.specs.Step.{chainWith, hops, ChainDone}
 use Rattle.twin.specs.declared.step.Stepped.{Stepped}
 use Rattle.commands.proofs.Issuing.{command-written}
 use Rattle.twin.proofs.Stepping.{says-handed, leaves-line, leaves-memory, hops-length}
-use Rattle.roundtrip.specs.Between.{held, broughtBack}
+use Rattle.roundtrip.specs.Between.{broughtBack, ChangedBy}
 use Rattle.roundtrip.proofs.RoundTrip.{right-answer}
 use Rattle.roundtrip.proofs.RegistersAfter.{held-after}
 use Rattle.promises.specs.RoundTrip.{PutTo, Trip, WholeTrip, RoundTrip}
@@ -27,7 +27,7 @@ module _ (q : Question) (n : ℕ) (memory : List ℕ) (to : PutTo q n memory) wh
   trip : (out outAfter memoryLeft : List ℕ) (r : Stepped) → ChainDone n memory memoryLeft (commandLine q) out outAfter r
       → length (commandLine q) ≤ length out → Trip q n memory memoryLeft out outAfter r
   trip out outAfter memoryLeft r done room =
-      let start = standing memory (commandLine q) in
+      let start = chainWith memory (commandLine q) in
       let end = hops n n start in
       let fits = is-a-chain n memory (omega arith) (omega arith) (omega arith) in
       let chain : 1 ≤ q .kind → q .n ≡ n = λ some. omega (arith, to .named some) in
@@ -38,8 +38,8 @@ module _ (q : Question) (n : ℕ) (memory : List ℕ) (to : PutTo q n memory) wh
         words = hops-length n n start;
         right = right-answer q (to .good) (to .sends) n chain (to .least) (to .most) memory (to .registers);
         stands = leaves-line start end out outAfter memoryLeft r _ done fits room;
-        holds = λ k i h. ap (λ (l : List ℕ). held l k i) left
-            ∙ held-after q (to .good) (to .sends) n chain (to .least) (to .most) memory (to .registers) (to .words) k i h;
+        holds = subst (ChangedBy q n memory) (sym left)
+            (held-after q (to .good) (to .sends) n chain (to .least) (to .most) memory (to .registers) (to .words));
       }
 
   whole-trip : (written line out outAfter memoryLeft before after : List ℕ) (issued : Issued) (r : Stepped) (reading : Reading)

@@ -10,6 +10,7 @@ use Rattle.remainder.specs.Turned.{weight}
 use Rattle.pec.specs.Pec.{bitStep, byteStep}
 use Rattle.characters.specs.Character.{wordOf}
 use Rattle.characters.specs.Nibble.{nibbleWord}
+use Rattle.packing.specs.Words.{asBytes}
 use Rattle.questions.specs.Bytes.{onWire}
 use Rattle.questions.proofs.Good.{good-count}
 use Rattle.promises.specs.WhereItEnds.{onCharacters, onLine, damage, WhereItEnds}
@@ -17,16 +18,16 @@ use Rattle.promises.proofs.Undetected.{ends, not-found}
 
 -- bit 0 of device 14, from 15 devices on, leads to one bit of the PEC
 four-ends : every (ends 14 1 15 2) 33 ≡ true
-unfolding ends weight onWire run byteStep bitStep times ones onesIn
+unfolding ends weight onWire asBytes run byteStep bitStep times ones onesIn
 four-ends = refl
 
 -- bit 2 of device 0 leads to two bits of the PEC
 six-ends : every (ends 0 4 1 3) 33 ≡ true
-unfolding ends weight onWire run byteStep bitStep times ones onesIn
+unfolding ends weight onWire asBytes run byteStep bitStep times ones onesIn
 six-ends = refl
 
 pub where-it-ends : WhereItEnds
-unfolding damage onLine onCharacters onWire run byteStep bitStep times nibbleWord wordOf
+unfolding damage onLine onCharacters onWire asBytes run byteStep bitStep times nibbleWord wordOf
 where-it-ends = record {
   four-bits-pass = λ q values all many. not-found q values all 14 1 (lit< tt) 15 2 (omega arith) four-ends (omega arith);
   six-bits-pass = λ q values all.

@@ -1,63 +1,123 @@
 -- DEMAND 1. Every line, every question and every job file gets an answer; bad input is turned away by number; a call that is turned away has
 -- written nothing into lent memory. Claimed of each call below, on all input: one answer and one content of the lent memory meet the call's
--- contract, and no other; where the answer has a row's number, whichever row, the memory is as it was. (That a call comes to an end is part of
--- its function's own check.)
+-- contract, and no other; the answer has the number that is due by document 01's rows, in the order of their checks, and 0 where none is given;
+-- where it has a row's number, whichever row, the memory is as it was. (That a call comes to an end is part of its function's own check.)
 use mathlib.Core.Path.{_≡_}
-use mathlib.Core.List.{List}
-use Prim.Native.Nat.{ℕ, _%_, _≤_}
+use mathlib.Core.List.{List, [], _∷_}
+use Prim.Native.Nat.{ℕ, suc, _/_, _%_, _≤_, _<_}
 use lib.IntN.{ℤ}
 use lib.Ieee.{Float}
+use lib.ListN.{length, getD, drop}
+use Rattle.remainder.specs.Turned.{Bytes}
+use Rattle.pec.specs.Pec.{pecOf}
+use Rattle.lines.specs.Line.{lineOf}
+use Rattle.packing.specs.Words.{lineOn}
+use Rattle.writing.specs.PutLine.{LinePut, putNumber}
 use Rattle.questions.specs.declared.question.Question.{Question}
 use Rattle.readings.specs.Reading.{numberOf}
 use Rattle.reader.specs.Read.{ReadDone}
+use Rattle.parts.specs.Part.{partOf}
 use Rattle.commands.specs.Command.{CommandPut, issuedNumber}
+use Rattle.cells.specs.Cell.{cellOf, cellsOf, cellNumber}
+use Rattle.cells.specs.declared.Range.{Range}
+use Rattle.cells.specs.declared.Register.{Register}
+use Rattle.cells.specs.declared.Cell.{Cell}
+use Rattle.cells.specs.declared.Cell.the-variants.{NotMeasured}
 use Rattle.registers.specs.Memory.{PoweredOn, poweredNumber}
 use Rattle.twin.specs.Step.{StepDone, ChainDone, steppedNumber}
+use Rattle.jobs.specs.declared.Header.{Header}
+use Rattle.jobs.specs.declared.Cursor.{Cursor}
+use Rattle.jobs.specs.Check.{openedOf, openedNumber, nextOf, nextNumber}
+use Rattle.letters.specs.declared.Standing.{Standing}
+use Rattle.printing.specs.Text.{certificateText}
+use Rattle.printing.specs.Print.{PrintDone, printedNumber}
 use Rattle.certificate.specs.Certificate.{CertificateDone, certifiedNumber}
 use Rattle.rehearsal.specs.Rehearsal.{RehearsalDone, rehearsedNumber}
 use Rattle.c_reader.specs.ReadBytes.{ReadBytesDone}
 use Rattle.c_commands.specs.CommandBytes.{CommandBytesDone}
+use Rattle.c_parts.specs.PartBytes.{partIn}
 use Rattle.c_cells.specs.CellBytes.{CellDone}
+use Rattle.c_cells.specs.CellsBytes.{CellsDone}
 use Rattle.c_twin.specs.TwinBytes.{PowerBytesDone, StepBytesDone}
 use Rattle.bmc.specs.Exports.{CertificateBytesDone}
+use Rattle.promises.specs.ByNumber.{Row, NumberDue}
+use Rattle.promises.specs.Rows.{readRows}
+use Rattle.promises.specs.CallRows.{room, commandRows, powerOnRows, chainRows, stepRows, stepBytesRows}
+use Rattle.promises.specs.CallRows.{openRows, nextRows, printRows, certifyRows, rehearseRows}
+use Rattle.promises.specs.CallRows.{cellRows, cellIntoRows, cellsIntoRows}
 
 -- turned away: an answer's number is a row's, and not 0
 abbrev pub TurnedAway : (number : ℕ) → Type 0
 TurnedAway number = 1 ≤ number
 
 -- what is claimed of a call on some input; `Contract after r` is its contract there: it answers r, and leaves the lent memory as `after`
-pub record Answers {Answer Memory : Type 0} (number : Answer → ℕ) (before : Memory) (Contract : (after : Memory) → Answer → Type 0) : Type 0 where
+pub record Answers {Answer Memory : Type 0} (rows : List Row) (number : Answer → ℕ) (before : Memory) (Contract : (after : Memory) → Answer → Type 0) : Type 0 where
   -- there is an answer, and so a memory after the call,
   pub answer : Answer
   pub leaves : Memory
   pub meets : Contract leaves answer
   -- there is no other,
   pub only : (after : Memory) (r : Answer) → Contract after r → (r ≡ answer) × (after ≡ leaves)
+  -- its number is the one that is due,
+  pub by-number : NumberDue rows (number answer)
   -- and turned away the call has written nothing
   pub refused : (after : Memory) (r : Answer) → Contract after r → TurnedAway (number r) → after ≡ before
+
+-- the same of a call that is lent nothing to write: its contract is that it answers this, so that what is claimed here is its number
+abbrev pub Replies : {Answer : Type 0} (rows : List Row) (number : Answer → ℕ) (answer : Answer) → Type 0
+Replies rows number answer = Answers {Memory = Unit} rows number tt (λ after r. r ≡ answer)
 
 -- the C side's answers carry their number in the lowest eight bits
 abbrev pub packedNumber : ℕ → ℕ
 packedNumber r = r % 256
 
+-- a call that refuses nothing has no number but 0
+abbrev pub noNumber : {Answer : Type 0} → Answer → ℕ
+noNumber r = 0
+
 pub record Demand1 : Type 0 where
-  -- the reader, the command writer, the twin, the certificate, the rehearsal; a step and a chain are lent registers and an output
-  pub read : (q : Question) (line out : List ℕ) → Answers numberOf out (ReadDone q line out)
-  pub write-command : (q : Question) (out : List ℕ) → Answers issuedNumber out (CommandPut q out)
-  pub power-on : (n : ℕ) (memory : List ℕ) → Answers poweredNumber memory (PoweredOn n memory)
+  -- the reader and the second call (what that hands back: SecondCall.antt); the command writer, and the writing of a line
+  pub read : (q : Question) (line out : List ℕ) → Answers (readRows q line (length out)) numberOf out (ReadDone q line out)
+  pub register-part : (q : Question) (line : List ℕ) (device : ℕ) → Replies [] noNumber (partOf q line device)
+  pub write-command : (q : Question) (out : List ℕ) → Answers (commandRows q (length out)) issuedNumber out (CommandPut q out)
+  pub put-line : (bytes out : List ℕ) → Answers (room (length out) (length (lineOf bytes)) ∷ []) putNumber out (LinePut bytes out)
+  -- a cell; twelve cells, each by its own register
+  pub read-cell : (range : Range) (mask c register : ℕ) → Replies (cellRows mask c register) cellNumber (cellOf range mask c register)
+  pub read-cells : (range : Range) (mask : ℕ) (registers : List Register) → length (cellsOf range mask registers) ≡ length registers
+  pub each-cell : (range : Range) (mask : ℕ) (registers : List Register) (k : ℕ) → k < length registers
+      → Replies (cellRows mask (suc k) (getD registers k (record { 0 = 0 }) .0)) cellNumber (getD (cellsOf range mask registers) k NotMeasured)
+  -- the twin: a step and a chain are lent registers and an output
+  pub power-on : (n : ℕ) (memory : List ℕ) → Answers (powerOnRows 256 n (length memory)) poweredNumber memory (PoweredOn n memory)
   pub step : (n device : ℕ) (memory line out : List ℕ)
-      → Answers {Memory = List ℕ × List ℕ} steppedNumber (memory, out) (λ after. StepDone n device memory (after .0) line out (after .1))
+      → Answers {Memory = List ℕ × List ℕ} (stepRows n device (length memory) (length out) (length line)) steppedNumber (memory, out)
+      (λ after. StepDone n device memory (after .0) line out (after .1))
   pub run-chain : (n : ℕ) (memory line out : List ℕ)
-      → Answers {Memory = List ℕ × List ℕ} steppedNumber (memory, out) (λ after. ChainDone n memory (after .0) line out (after .1))
-  pub certify : (file text : List ℕ) → Answers certifiedNumber text (CertificateDone file text)
-  pub rehearse : (file out : List ℕ) → Answers rehearsedNumber out (RehearsalDone file out)
-  -- the C side's calls, over bytes; a cell's voltage goes into two lent numbers
-  pub read-bytes : (q : Question) (line out : List ℕ) → Answers packedNumber out (ReadBytesDone q line out)
-  pub command-bytes : (q : Question) (out : List ℕ) → Answers packedNumber out (CommandBytesDone q out)
+      → Answers {Memory = List ℕ × List ℕ} (chainRows n (length memory) (length out) (length line)) steppedNumber (memory, out)
+      (λ after. ChainDone n memory (after .0) line out (after .1))
+  -- a job file opened and its entries taken out; a certificate printed
+  pub open-file : (file : List ℕ) → Bytes file → Replies (openRows file) openedNumber (openedOf file)
+  pub next-entry : (h : Header) (file : List ℕ) (c : Cursor) → Replies (nextRows h (drop (c .at) file)) nextNumber (nextOf h file c)
+  pub print : (n : ℕ) (numbers : List ℕ) (s : Standing) (text : List ℕ)
+      → Answers (printRows (length numbers) (length text) (length (certificateText n numbers s))) printedNumber text (PrintDone n numbers s text)
+  -- the certificate and the rehearsal, of every file of bytes
+  pub certify : (file text : List ℕ) → Bytes file → Answers (certifyRows file (length text)) certifiedNumber text (CertificateDone file text)
+  pub rehearse : (file out : List ℕ) → Bytes file → Answers (rehearseRows file (length out)) rehearsedNumber out (RehearsalDone file out)
+  -- the C side's calls, over bytes: an odd number of them is as no line at all, and so LENGTH; two are room for a word
+  pub read-bytes : (q : Question) (line out : List ℕ) → Answers (readRows q (lineOn line) (length out / 2)) packedNumber out (ReadBytesDone q line out)
+  pub pec : (bytes : List ℕ) → Replies [] noNumber (pecOf bytes)
+  pub part-bytes : (q : Question) (device : ℕ) (line : List ℕ) → Replies [] noNumber (partIn q device line)
+  pub command-bytes : (q : Question) (out : List ℕ) → Answers (commandRows q (length out / 2)) packedNumber out (CommandBytesDone q out)
+  -- a cell's voltage goes into two lent numbers, twelve cells' into two lists, with a third for their answers
   pub cell-into : (cell enabled register bipolar : ℕ) (microvolts : ℤ) (volts : Float)
-      → Answers {Memory = ℤ × Float} packedNumber (microvolts, volts)
+      → Answers {Memory = ℤ × Float} (cellIntoRows bipolar enabled cell register) packedNumber (microvolts, volts)
       (λ after. CellDone cell enabled register bipolar microvolts (after .0) volts (after .1))
-  pub power-on-bytes : (n : ℕ) (memory : List ℕ) → Answers packedNumber memory (PowerBytesDone n memory)
+  pub cells-into : (enabled bipolar : ℕ) (registers : List ℕ) (microvolts : List ℤ) (volts : List Float) (answers : List ℕ)
+      → Answers {Memory = List ℤ × List Float × List ℕ}
+      (cellsIntoRows bipolar (length registers) (length microvolts) (length volts) (length answers)) packedNumber (microvolts, volts, answers)
+      (λ after. CellsDone enabled bipolar registers microvolts (after .0) volts (after .1) answers (after .2))
+  pub power-on-bytes : (n : ℕ) (memory : List ℕ) → Answers (powerOnRows 512 n (length memory)) packedNumber memory (PowerBytesDone n memory)
   pub step-bytes : (n device : ℕ) (memory line out : List ℕ)
-      → Answers {Memory = List ℕ × List ℕ} packedNumber (memory, out) (λ after. StepBytesDone n device memory (after .0) line out (after .1))
-  pub certificate-bytes : (file text : List ℕ) → Answers packedNumber text (CertificateBytesDone file text)
+      → Answers {Memory = List ℕ × List ℕ} (stepBytesRows n device (length memory) (length out) (length line)) packedNumber (memory, out)
+      (λ after. StepBytesDone n device memory (after .0) line out (after .1))
+  pub certificate-bytes : (file text : List ℕ) → Bytes file
+      → Answers (certifyRows file (length text)) packedNumber text (CertificateBytesDone file text)

@@ -1,34 +1,33 @@
 -- DEMAND 2. Commands go out, and answers are taken or refused, exactly as data sheet 004 and document 01 define; a device holds a setting only
--- by an accepted read after the write. Claimed of every question, every line, every output and every job file, and of every answer that meets
--- the contract of `write_command` and of `read`:
+-- by an accepted read after the write. Claimed of every question, every line and every output, and of every answer that meets the contract of
+-- `write_command` and of `read`:
 -- a command is written exactly where the question is good and there is room, and then it is the table's command line and nothing else;
 -- an answer is accepted exactly where the question is good, there is room, and the line is the line of a right answer for some values (of a
 -- write, the one answer; of HELLOALL, some count 1..32), and what is handed out is those values, HELLOALL's count being the byte on the line;
--- a refusal is by the first row of "Turned away" that fails, with its place or byte;
--- the certificate gives a device a letter exactly where the last write entry whose question is good covers it: S exactly where of the accepted
--- reads of that register that come after the write and cover the device the latest shows the value written, O exactly where it shows another,
--- U exactly where there is no such read.
+-- an answer is refused exactly where a row of "Turned away" is given, by the first row that is, and with its place or byte.
+-- What is claimed of the certificate stands in Certificate.antt.
 use mathlib.Core.Path.{_≡_}
-use mathlib.Core.Bool.{true, false}
+use mathlib.Core.Bool.{true}
 use mathlib.Core.List.{List}
 use Prim.Native.Nat.{ℕ, _≤_}
 use lib.ListN.{length}
 use Rattle.lines.specs.Line.{byteAt}
 use Rattle.lines.specs.Write.{atFront}
-use Rattle.questions.specs.Question.{helloAll, goodQuestion, covers}
+use Rattle.questions.specs.Question.{helloAll, goodQuestion}
 use Rattle.questions.specs.Shape.{shapeOf}
 use Rattle.questions.specs.declared.question.Question.{Question}
 use Rattle.commands.specs.Command.{commandLine, CommandPut, issuedNumber}
 use Rattle.commands.specs.declared.Issued.{Issued}
 use Rattle.commands.specs.declared.Issued.the-variants.{Words}
 use Rattle.readings.specs.Reading.{numberOf}
+use Rattle.readings.specs.declared.Refusal.{Refusal}
 use Rattle.readings.specs.declared.Reading.{Reading}
-use Rattle.readings.specs.declared.Reading.the-variants.{Counted}
-use Rattle.judging.specs.Judge.{judgeOf}
+use Rattle.readings.specs.declared.Reading.the-variants.{Counted, Refused}
 use Rattle.reader.specs.Read.{ReadDone}
 use Rattle.acceptance.specs.Answer.{AnswerTo, Sendable, readingOf, handedOut}
-use Rattle.letters.specs.Meaning.{None, goodWrite, Deserves, Given}
-use Rattle.certificate.specs.Certificate.{heardIn, standingOf}
+use Rattle.promises.specs.ByNumber.{NumberDue}
+use Rattle.promises.specs.Rows.{readRows, Carried}
+use Rattle.promises.specs.Certificate.{PrintedCertificate}
 
 -- when a command is due: the question is good, and its line has room
 pub record CommandDue (q : Question) (before : List ℕ) : Type 0 where
@@ -70,13 +69,14 @@ pub record Demand2 : Type 0 where
   -- HELLOALL's count is the third byte of the line, whatever n the question has
   pub hello-count : (q : Question) (line before after : List ℕ) (r : Reading) → ReadDone q line before after r
       → q .kind ≡ helloAll → Accepted r → r ≡ Counted (byteAt line 2)
-  -- rows 1 to 11 in their order, as `judgeOf` has them
-  pub by-rows : (q : Question) (line before after : List ℕ) (r : Reading) → ReadDone q line before after r → r ≡ judgeOf q line (length before)
+  -- turned away exactly where a row of the table is given, and by the first that is,
+  pub by-rows : (q : Question) (line before after : List ℕ) (r : Reading) → ReadDone q line before after r
+      → NumberDue (readRows q line (length before)) (numberOf r)
+  -- with the place or the byte that the row has
+  pub carried : (q : Question) (line before after : List ℕ) (r : Reading) → ReadDone q line before after r
+      → (why : Refusal) → r ≡ Refused why → Carried q line why
   -- command and answer have equal length, and never more than 140 words
   pub equal-length : (q : Question) → goodQuestion q ≡ true → Sendable q → (values line : List ℕ) → AnswerTo q values line
       → (length line ≡ length (commandLine q)) × (length line ≤ 140)
-  -- the certificate: the letter that is given is the one that the device deserves, and the one that it deserves is given;
-  pub given-only-then : (file : List ℕ) (a letter : ℕ) → Given (heardIn file) a letter → Deserves (heardIn file) a letter
-  pub given-always-then : (file : List ℕ) (a letter : ℕ) → Deserves (heardIn file) a letter → Given (heardIn file) a letter
-  -- without a good write no device has one
-  pub no-write : (file : List ℕ) → None goodWrite (heardIn file) → (a : ℕ) → covers (standingOf file .write) a ≡ false
+  -- the certificate says of a device only what it deserves, and all of it
+  pub certificate : PrintedCertificate

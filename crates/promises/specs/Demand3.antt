@@ -1,4 +1,4 @@
--- DEMAND 3. A READALL answer with check byte 00h is accepted undamaged, and hands out each device's register once, in address order. With one
+-- DEMAND 3. A READALL answer with check byte 00h is accepted undamaged, given room for its values, and hands out each device's register once, in address order. With one
 -- to five line bits turned over for 1 to 14 devices, or one to three for 15 to 32, it is turned away, and the output stays as it was.
 -- Claimed of every good READALL question, alive on and off, any seed, any register, any values; of bits in any places; and of every answer that
 -- meets `read`'s contract.

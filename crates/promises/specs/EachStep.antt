@@ -19,8 +19,8 @@ use Rattle.roundtrip.specs.Between.{held}
 use Rattle.roundtrip.specs.Commands.{CommandFor}
 
 -- the line that device k hands on of a command for it: one device more, one added to the alive byte, its own value before the others'
-abbrev pub handedOn : (k : ℕ) (memory : List ℕ) {n : ℕ} {line : List ℕ} → CommandFor n k line → List ℕ
-handedOn k memory c =
+abbrev pub commandHandedOn : (k : ℕ) (memory : List ℕ) {n : ℕ} {line : List ℕ} → CommandFor n k line → List ℕ
+commandHandedOn k memory c =
     lineOf (onTheWay (c .question) (suc k) 1 (lowHigh (held memory k (c .question .reg)) ++ onWire (c .values)))
 
 -- what a step of device k leaves of a line and of all registers
@@ -30,7 +30,7 @@ pub record ByItsRule (n k : ℕ) (memory memoryLeft line out outAfter : List ℕ
   pub stands : outAfter ≡ atFront handed out
   pub equal-length : length handed ≡ length line
   pub on-command : (c : CommandFor n k line)
-      → (handed ≡ handedOn k memory c) × (registersOf memoryLeft k ≡ changed (registersOf memory k) (changeAsked (c .question)))
+      → (handed ≡ commandHandedOn k memory c) × (registersOf memoryLeft k ≡ changed (registersOf memory k) (changeAsked (c .question)))
   pub on-another-line : (CommandFor n k line → ⊥) → (handed ≡ line) × (memoryLeft ≡ memory)
   pub other-devices : (j : ℕ) → (j ≡ k → ⊥) → registersOf memoryLeft j ≡ registersOf memory j
 

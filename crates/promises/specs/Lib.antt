@@ -1,4 +1,8 @@
+pub mod ByNumber
+pub mod Rows
+pub mod CallRows
 pub mod Demand1
+pub mod Certificate
 pub mod Demand2
 pub mod Demand3
 pub mod WhereItEnds
@@ -6,3 +10,9 @@ pub mod EachStep
 pub mod RoundTrip
 pub mod OwnLetter
 pub mod StarredNumbers
+pub mod CSide
+pub mod SecondCall
+pub mod CSideCommands
+pub mod CSideAnswers
+pub mod CSideDamage
+pub mod CSidePacked

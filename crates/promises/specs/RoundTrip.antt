@@ -3,9 +3,9 @@
 -- device's register in address order; after WRITEALL every device holds the value (register 0x00 excepted), after WRITEDEVICE exactly that
 -- one; reads and HELLOALL change no register. Claimed of every answer that meets the three contracts.
 use mathlib.Core.Path.{_≡_}
-use mathlib.Core.Bool.{true, cond}
+use mathlib.Core.Bool.{true}
 use mathlib.Core.List.{List}
-use Prim.Native.Nat.{ℕ, _*_, _≤_, _<_}
+use Prim.Native.Nat.{ℕ, _*_, _≤_}
 use lib.ListN.{length, take}
 use Rattle.lines.specs.Write.{atFront}
 use Rattle.questions.specs.Question.{goodQuestion}
@@ -19,7 +19,7 @@ use Rattle.acceptance.specs.Answer.{AnswerTo, Registers, Sendable}
 use Rattle.twin.specs.Step.{ChainDone}
 use Rattle.twin.specs.declared.step.Stepped.{Stepped}
 use Rattle.twin.specs.declared.step.Stepped.the-variants.{Handed}
-use Rattle.roundtrip.specs.Between.{held, broughtBack, reaches}
+use Rattle.roundtrip.specs.Between.{broughtBack, ChangedBy}
 use Rattle.promises.specs.Demand2.{Accepted, With}
 
 -- a good question put to a chain of n devices: HELLOALL, or one that names their number; and 256 registers for each device
@@ -40,13 +40,13 @@ pub record Trip (q : Question) (n : ℕ) (memory memoryLeft out outAfter : List 
   pub words : length answer ≡ length (commandLine q)
   pub right : AnswerTo q (broughtBack q n memory) answer
   pub stands : outAfter ≡ atFront answer out
-  pub holds : (k i : ℕ) → k < n → held memoryLeft k i ≡ cond (reaches q k i) (q .value) (held memory k i)
+  pub holds : ChangedBy q n memory memoryLeft
 
 -- the whole way: the reader accepts what came back and hands out what the registers held; and what they hold then
 pub record WholeTrip (q : Question) (n : ℕ) (memory memoryLeft before after : List ℕ) (reading : Reading) : Type 0 where
   pub accepted : Accepted reading
   pub given : With q (broughtBack q n memory) before after reading
-  pub holds : (k i : ℕ) → k < n → held memoryLeft k i ≡ cond (reaches q k i) (q .value) (held memory k i)
+  pub holds : ChangedBy q n memory memoryLeft
 
 pub record RoundTrip : Type 0 where
   -- through the chain

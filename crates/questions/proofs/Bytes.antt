@@ -1,12 +1,12 @@
 -- Laws of a command's bytes: the alive byte present or not, how many bytes the fill pairs are, and the command of each form.
-use mathlib.Core.Path.{_≡_, refl, ap, _∙_}
+use mathlib.Core.Path.{_≡_, refl, ap}
 use mathlib.Core.Bool.{Bool, cond}
 use mathlib.Core.List.{List, [], _∷_, _++_}
-use Prim.Native.Nat.{ℕ, zero, suc, _+_, _*_, _%_, _≤_, _<_}
-use native.Mathlib.Nat.{add-zero, mod-eq-of-lt}
+use Prim.Native.Nat.{ℕ, zero, suc, _+_, _*_, _%_, _≤_}
 use native.Mathlib.Omega.{arith}
 use lib.ListN.{length, length-append}
 use Rattle.pec.specs.Pec.{pecOf}
+use Rattle.packing.specs.Words.{asBytes}
 use borrow.Author.Tests.{eq-eqb, ne-eqb}
 use Rattle.questions.specs.Shape.{shapeOf}
 use Rattle.questions.specs.Bytes.{lowHigh, onWire, aliveByte, sealed, fillPairs, commandBytes}
@@ -22,10 +22,6 @@ alive-absent q added off = ap (λ (t : Bool). cond t ((q .seed + added) % 256 �
 
 pub alive-off : (q : Question) (added : ℕ) → q .alive ≡ 0 → aliveByte q added ≡ []
 alive-off q added e = alive-absent q added (λ one. omega arith)
-
--- the alive byte of a command is the seed, where there is one
-pub alive-on : (q : Question) → q .alive ≡ 1 → q .seed < 256 → aliveByte q 0 ≡ q .seed ∷ []
-alive-on q e h = alive-present q 0 e ∙ ap (λ (s : ℕ). s ∷ []) (ap (λ (s : ℕ). s % 256) (add-zero (q .seed)) ∙ mod-eq-of-lt h)
 
 -- covered bytes, PEC, alive byte
 pub sealed-size : (q : Question) (added : ℕ) (covered : List ℕ) → length (sealed q added covered) ≡ length covered + 1 + length (aliveByte q added)
@@ -49,5 +45,5 @@ module _ (q : Question) where
   write-command lo hi = of-write (q .kind) _ _ _ lo hi
 
   pub read-command : 3 ≤ q .kind → commandBytes q ≡ sealed q 0 (shapeOf q .first ∷ q .reg ∷ 0 ∷ []) ++ fillPairs (shapeOf q .values)
-  unfolding commandBytes onWire
+  unfolding commandBytes onWire asBytes
   read-command lo = of-read (q .kind) _ _ _ lo

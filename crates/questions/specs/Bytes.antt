@@ -1,21 +1,18 @@
 -- The table of document 01, "Commands and answers": the bytes of each command and of its right answer, and their lengths.
 use mathlib.Core.Bool.{cond}
-use mathlib.Core.List.{List, [], _∷_, _++_}
-use Prim.Native.Nat.{ℕ, zero, suc, _+_, _/_, _%_}
+use mathlib.Core.List.{List, [], _∷_, _++_, reverse}
+use Prim.Native.Nat.{ℕ, zero, suc, _+_, _%_}
 use lib.Dec.{eqb}
+use Rattle.packing.specs.Words.{asBytes}
+pub use Rattle.packing.specs.Words.{lowHigh}
 use Rattle.pec.specs.Pec.{pecOf}
 use Rattle.questions.specs.Question.{byForm}
 use Rattle.questions.specs.Shape.{shapeOf}
 use Rattle.questions.specs.declared.question.Question.{Question}
 
--- a register's value: low byte, high byte
-abbrev pub lowHigh : ℕ → List ℕ
-lowHigh v = v % 256 ∷ v / 256 ∷ []
-
--- the values of devices 0, 1, .. as they stand on the line: highest address first
+-- the values of devices 0, 1, .. as they stand on the line: highest address first, each as its low byte and its high byte
 unfoldable pub onWire : List ℕ → List ℕ
-onWire [] = []
-onWire (v ∷ values) = onWire values ++ lowHigh v
+onWire values = asBytes (reverse values)
 
 -- [s]: the alive byte, present when the bench has it on; after FFh comes 00h
 abbrev pub aliveByte : Question → (added : ℕ) → List ℕ

@@ -1,26 +1,22 @@
 -- The reader's call: what it says, and what it leaves in the output.
 use mathlib.Core.Path.{_≡_}
-use mathlib.Core.List.{List}
-use Prim.Native.Nat.{ℕ, _+_, _-_, _*_, _≤_}
-use lib.ListN.{length}
-use Rattle.ground.specs.Sweep.{tabulated}
+use mathlib.Core.List.{List, reverse}
+use Prim.Native.Nat.{ℕ, _+_, _*_, _≤_}
+use lib.ListN.{length, take, drop}
+use Rattle.packing.specs.Words.{wordsOf}
 use Rattle.lines.specs.Line.{bytesOf}
 use Rattle.lines.specs.Write.{atFront}
 use Rattle.questions.specs.declared.question.Question.{Question}
 use Rattle.readings.specs.Reading.{valuesTaken}
-use Rattle.contents.specs.Rows.{byteIn}
 use Rattle.contents.specs.InOrder.{judgeBytes}
 use Rattle.judging.specs.Judge.{judgeOf}
 use Rattle.readings.specs.declared.Reading.{Reading}
 
--- of m values in the bytes of an answer, highest address first, the one that stands k devices from the lowest: low byte, high byte
-abbrev pub valueIn : List ℕ → (m k : ℕ) → ℕ
-valueIn bytes m k = byteIn bytes (2 + 2 * (m - 1 - k)) + 256 * byteIn bytes (2 + 2 * (m - 1 - k) + 1)
-
--- the m values in address order, lowest first: of the bytes, and of a line
+-- the m values that an answer's bytes carry behind the first two, the highest address first there: in address order, lowest first
 abbrev pub valuesIn : List ℕ → (m : ℕ) → List ℕ
-valuesIn bytes m = tabulated (valueIn bytes m) m 0
+valuesIn bytes m = reverse (take m (wordsOf (drop 2 bytes)))
 
+-- and those that its line carries
 abbrev pub valuesOn : List ℕ → (m : ℕ) → List ℕ
 valuesOn line m = valuesIn (bytesOf line) m
 

@@ -1,21 +1,21 @@
 // The reader's call.
 use contents::judge_bytes;
-use judging::Screened;
 use judging::screen;
 use lines::read::read_bytes;
 use packing::join;
 use questions::question::Question;
 use readings::Reading;
+use readings::Screened;
 use readings::values_taken;
 ghost use mathlib.Core.Path.{_≡_};
 ghost use Prim.Native.Nat.{_+_, _*_, _≤_, _<_};
-ghost use lib.ListN.{length};
+ghost use lib.ListN.{length, getD};
 ghost use Rattle.lines.specs.Write.{atFront};
 ghost use Rattle.contents.specs.InOrder.{judgeBytes};
 ghost use Rattle.readings.specs.Reading.{valuesTaken};
 ghost use Rattle.judging.specs.Judge.{screenOf};
-ghost use Rattle.judging.specs.declared.Screened.the-variants.{Passed};
-ghost use Rattle.reader.specs.Read.{ReadDone, ReadOff, Carried, valueIn, valuesIn};
+ghost use Rattle.readings.specs.declared.Screened.the-variants.{Passed};
+ghost use Rattle.reader.specs.Read.{ReadDone, ReadOff, Carried, valuesIn};
 
 // Takes an answer or turns it away. A read's values go to the front of the output in address order, lowest first, and the rest stays.
 pub fn read(q: Question, line: &[u16], out: &mut [u16]) -> Reading
@@ -35,7 +35,7 @@ fn read_passed(q: Question, line: &[u16], out: &mut [u16]) -> Reading
 {
     let mut bytes = blank_bytes();
     let count = (line.len() - 2) / 2;
-    read_bytes(line, 0, &mut bytes[..count]);
+    read_bytes(line, &mut bytes[..count]);
     read_off(q, &bytes[..count], out)
 }
 
@@ -71,7 +71,7 @@ fn put_values(bytes: &[u8], m: usize, out: &mut [u16])
 // Of m values, the one that stands k devices from the lowest: low byte, high byte.
 fn value_in(bytes: &[u8], m: usize, k: usize) -> u16
     requires { ⌜ (k < m) × (2 * m + 2 ≤ length (now bytes)) ⌝ }
-    ensures { λ r. ⌜ r ≡ valueIn (now (bytes .entry)) m k ⌝ }
+    ensures { λ r. ⌜ r ≡ getD (valuesIn (now (bytes .entry)) m) k 0 ⌝ }
 {
     let at = 2 + 2 * (m - 1 - k);
     join(bytes[at], bytes[at + 1])

@@ -1,2 +1,3 @@
 pub mod Others
+pub mod FirstFault
 pub mod Agree

@@ -25,6 +25,12 @@ pub enum Reading {
     Refused(Refusal),
 }
 
+// What a row, or some rows in their order, say of an answer: that it passes, or why it is turned away.
+pub enum Screened {
+    Passed,
+    Faulty(Refusal),
+}
+
 // Document 01's number of a row.
 fn refusal_number(why: Refusal) -> u8
     ensures { λ r. ⌜ r ≡ refusalNumber why ⌝ }

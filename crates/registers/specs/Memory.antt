@@ -6,6 +6,7 @@ use Prim.Native.Nat.{ℕ, _*_, _%_}
 use lib.Dec.{eqb, leb}
 use lib.ListN.{length}
 use Rattle.ground.specs.Sweep.{tabulated}
+use Rattle.lines.specs.Write.{leftBy}
 use Rattle.registers.specs.declared.Powered.{Powered}
 use Rattle.registers.specs.declared.Powered.the-variants.{On, Twin}
 
@@ -32,18 +33,20 @@ powerOnFigure r =
 abbrev pub fresh : ℕ → ℕ
 fresh i = powerOnFigure (i % 256)
 
--- the answer, and the lent memory after the call
+-- the registers of n devices after power-on
+abbrev pub powerOnMemory : (n : ℕ) → List ℕ
+powerOnMemory n = tabulated fresh (256 * n) 0
+
+-- the answer
 unfoldable pub poweredOf : (n : ℕ) (memory : List ℕ) → Powered
 poweredOf n memory = cond (isChain n (length memory)) On Twin
 
-unfoldable pub memoryOf : (n : ℕ) (memory : List ℕ) → List ℕ
-memoryOf n memory = cond (isChain n (length memory)) (tabulated fresh (256 * n) 0) memory
+-- document 01's number of an answer: 0 where the memory was filled, 15 TWIN
+abbrev pub poweredNumber : Powered → ℕ
+poweredNumber On = 0
+poweredNumber Twin = 15
 
 -- what `power_on` says and leaves
 pub record PoweredOn (n : ℕ) (before after : List ℕ) (r : Powered) : Type 0 where
   pub says : r ≡ poweredOf n before
-  pub leaves : after ≡ memoryOf n before
-
-abbrev pub poweredNumber : Powered → ℕ
-poweredNumber On = 0
-poweredNumber Twin = 15
+  pub leaves : after ≡ leftBy (poweredNumber (poweredOf n before)) (powerOnMemory n) before

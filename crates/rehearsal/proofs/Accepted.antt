@@ -7,7 +7,7 @@ use Prim.Native.Nat.{ℕ, _*_, _%_, _≤_}
 use lib.ListN.{length, drop}
 use Rattle.ground.proofs.Sweep.{length-tabulated}
 use Rattle.remainder.specs.Turned.{Bytes}
-use Rattle.registers.specs.Memory.{fresh}
+use Rattle.registers.specs.Memory.{fresh, powerOnMemory}
 use Rattle.registers.proofs.Power.{figure-lt}
 use Rattle.roundtrip.proofs.Values.{tabulated-registers}
 use Rattle.jobs.specs.declared.Header.{Header}
@@ -17,21 +17,21 @@ use Rattle.jobs.specs.Encoded.{AllKeep, Encodes}
 use Rattle.jobs.specs.Encoded.AllKeep.{none as keeps-none, more as keeps-more}
 use Rattle.jobs.proofs.Entries.{parts, header-least, header-most}
 use Rattle.jobs.proofs.GoodFile.{good-is-encoded}
-use Rattle.rehearsal.specs.Rehearsal.{sent, withWords, rehearsed, afterPowerOn, rehearsalOf}
+use Rattle.rehearsal.specs.Rehearsal.{sent, withWords, rehearsed, rehearsalOf}
 use Rattle.rehearsal.specs.Accepted.{FromChain}
 use Rattle.rehearsal.specs.Accepted.FromChain.{none as no-more}
-use Rattle.rehearsal.proofs.OneAccepted.{Chain, chain-after, answered-fits, answered-keeps, one-from-chain}
+use Rattle.rehearsal.proofs.OneAccepted.{ChainMemory, chain-after, answered-fits, answered-keeps, one-from-chain}
 
 -- ---- all entries
 
-pub from-chain : (h : Header) (memory : List ℕ) (es : List Entry) → AllKeep h es → Chain (h .n) memory → FromChain h memory (rehearsed h memory es)
+pub from-chain : (h : Header) (memory : List ℕ) (es : List Entry) → AllKeep h es → ChainMemory (h .n) memory → FromChain h memory (rehearsed h memory es)
 unfolding rehearsed
 from-chain h memory [] keeps c = no-more memory
 from-chain h memory (e ∷ es) (keeps-more _ _ fits rules rest) c =
     one-from-chain h e fits memory c (rehearsed h (sent (h .n) memory (asked h e) .memory) es)
     (from-chain h (sent (h .n) memory (asked h e) .memory) es rest (chain-after h e fits memory c))
 
-all-keep : (h : Header) (memory : List ℕ) (es : List Entry) → AllKeep h es → Chain (h .n) memory → AllKeep h (rehearsed h memory es)
+all-keep : (h : Header) (memory : List ℕ) (es : List Entry) → AllKeep h es → ChainMemory (h .n) memory → AllKeep h (rehearsed h memory es)
 unfolding rehearsed
 all-keep h memory [] keeps c = keeps-none
 all-keep h memory (e ∷ es) (keeps-more _ _ fits rules rest) c =
@@ -45,9 +45,9 @@ module _ (file : List ℕ) (small : Bytes file) (ok : goodFile file ≡ true) wh
   h₀ = headerIn file
 
   abbrev answered : List Entry
-  answered = rehearsed h₀ (afterPowerOn (h₀ .n)) (entriesIn (drop 7 file))
+  answered = rehearsed h₀ (powerOnMemory (h₀ .n)) (entriesIn (drop 7 file))
 
-  powered : Chain (h₀ .n) (afterPowerOn (h₀ .n))
+  powered : ChainMemory (h₀ .n) (powerOnMemory (h₀ .n))
   powered = record {
     least = header-least h₀ (parts file ok .header);
     most = header-most h₀ (parts file ok .header);
@@ -64,10 +64,10 @@ module _ (file : List ℕ) (small : Bytes file) (ok : goodFile file ≡ true) wh
   rehearsal-is-a-job short = record {
     written = refl;
     header = parts file ok .header;
-    entries = all-keep h₀ (afterPowerOn (h₀ .n)) (entriesIn (drop 7 file)) keeps powered;
+    entries = all-keep h₀ (powerOnMemory (h₀ .n)) (entriesIn (drop 7 file)) keeps powered;
     size = short;
   }
 
   -- EVERY GOOD QUESTION IS ACCEPTED, with the values that the registers held.
-  pub rehearsal-is-accepted : FromChain h₀ (afterPowerOn (h₀ .n)) answered
-  rehearsal-is-accepted = from-chain h₀ (afterPowerOn (h₀ .n)) (entriesIn (drop 7 file)) keeps powered
+  pub rehearsal-is-accepted : FromChain h₀ (powerOnMemory (h₀ .n)) answered
+  rehearsal-is-accepted = from-chain h₀ (powerOnMemory (h₀ .n)) (entriesIn (drop 7 file)) keeps powered

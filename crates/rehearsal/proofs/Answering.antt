@@ -14,18 +14,18 @@ use Rattle.jobs.specs.Check.{wordsIn, entryIn, askedIn, entriesIn}
 use Rattle.jobs.proofs.Entries.{entries-here, no-more-entries}
 use Rattle.rehearsal.specs.declared.Places.{Places}
 use Rattle.rehearsal.specs.Rehearsal.{answerWords, sent, withWords, rehearsed}
-use Rattle.rehearsal.specs.Answering.{SentDone, fieldBytes, entryWith, answeredAt, AnsweredOne, Ready}
+use Rattle.rehearsal.specs.Answering.{SentDone, fieldsFor, entryWith, answeredAt, AnsweredOne, Ready}
 use Rattle.rehearsal.proofs.Sending.{answer-length}
 use Rattle.rehearsal.proofs.Counting.{answered-size, rehearsed-size, Counting, counting-on}
 
 -- an entry's bytes: its fields, and its words
 fields-and-words : (h : Header) (e : Entry) (words : List ℕ) (n : ℕ) → n ≡ length words
-    → fieldBytes (asked h e) n ++ asBytes words ≡ entryBytes (withWords e words)
-fields-and-words h e words n is = ap (λ (k : ℕ). fieldBytes (asked h e) k ++ asBytes words) is
+    → fieldsFor (asked h e) n ++ asBytes words ≡ entryBytes (withWords e words)
+fields-and-words h e words n is = ap (λ (k : ℕ). fieldsFor (asked h e) k ++ asBytes words) is
 
 -- one entry: its fields laid, and its answer's words behind them
 pub answered-one : (h : Header) (file memory memory′ line out out₁ out₂ : List ℕ) (p : Places) (q : Question) (words after : ℕ)
-    → q ≡ askedIn h (drop (p .at) file) → SentDone (h .n) q memory memory′ line words → out₁ ≡ sets out (p .to) (fieldBytes q words)
+    → q ≡ askedIn h (drop (p .at) file) → SentDone (h .n) q memory memory′ line words → out₁ ≡ sets out (p .to) (fieldsFor q words)
     → out₂ ≡ sets out₁ (p .to + 8) (asBytes (take words line)) → after ≡ p .at + 8 + 2 * wordsIn (drop (p .at) file)
     → AnsweredOne h file p memory memory′ out out₂ (record { at = after; to = p .to + 8 + 2 * words })
 answered-one h file memory memory′ line out out₁ out₂ p q words after is done fields behind next =
@@ -38,8 +38,8 @@ answered-one h file memory memory′ line out out₁ out₂ p q words after is d
       places = ap₂ (λ (at n : ℕ). record { at = at; to = p .to + 8 + 2 * n }) next number;
       remembers = done .remembers ∙ ap (λ (x : Question). sent (h .n) memory x .memory) is;
       leaves =
-          behind ∙ ap₂ (λ (l w : List ℕ). sets l (p .to + 8) (asBytes w)) (fields ∙ ap (λ (x : Question). sets out (p .to) (fieldBytes x words)) is) comes
-          ∙ sym (sets-append out (p .to) (fieldBytes asks words) (asBytes back))
+          behind ∙ ap₂ (λ (l w : List ℕ). sets l (p .to + 8) (asBytes w)) (fields ∙ ap (λ (x : Question). sets out (p .to) (fieldsFor x words)) is) comes
+          ∙ sym (sets-append out (p .to) (fieldsFor asks words) (asBytes back))
           ∙ ap (sets out (p .to)) (fields-and-words h e back words (number ∙ sym (answer-length asks (h .n) memory)));
     }
 

@@ -12,7 +12,8 @@ use Rattle.jobs.specs.Check.{wordsIn, askedIn, goodEntries, entriesIn, headerIn
 use Rattle.jobs.proofs.Entries.{first-good, good-here, entries-here, no-more-entries, parts}
 use Rattle.jobs.proofs.Placed.{entry-within}
 use Rattle.rehearsal.specs.declared.Places.{Places}
-use Rattle.rehearsal.specs.Rehearsal.{answerWords, sent, withWords, rehearsed, afterPowerOn, rehearsalOf}
+use Rattle.registers.specs.Memory.{powerOnMemory}
+use Rattle.rehearsal.specs.Rehearsal.{answerWords, sent, withWords, rehearsed, rehearsalOf}
 use Rattle.rehearsal.specs.Answering.{entryWith}
 use Rattle.rehearsal.proofs.Sending.{few-words, answer-length}
 
@@ -75,5 +76,5 @@ counted h file p is over counting =
       ap (sizes h) (no-more-entries file (p .at) over),
       no-sizes h,
       ap (λ (x : Header). sizes x es) is,
-      rehearsed-size h′ (afterPowerOn (h′ .n)) es,
+      rehearsed-size h′ (powerOnMemory (h′ .n)) es,
     )

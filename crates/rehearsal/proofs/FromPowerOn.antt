@@ -1,6 +1,6 @@
 -- The whole answered file: a chain that is switched on, the header, and behind it the entries with their answers.
 use mathlib.Core.Path.{_≡_, sym, ap, ap₂, _∙_}
-use mathlib.Core.Bool.{Bool, true, cond, _&&_}
+use mathlib.Core.Bool.{Bool, true, _&&_}
 use mathlib.Core.List.{List, _++_}
 use Prim.Native.Nat.{ℕ, _*_, _≤_}
 use native.Mathlib.Omega.{arith}
@@ -10,13 +10,14 @@ use lib.Seq.{sets}
 use borrow.Author.Tests.{le-leb, eq-eqb}
 use Rattle.ground.proofs.Lists.{sets-append}
 use Rattle.jobs.specs.declared.Header.{Header}
-use Rattle.registers.specs.Memory.{isChain, memoryOf, PoweredOn}
+use Rattle.registers.specs.Memory.{isChain, powerOnMemory, PoweredOn}
 use Rattle.registers.specs.declared.Powered.{Powered}
+use Rattle.registers.proofs.Power.{switched-on}
 use Rattle.jobs.specs.Format.{Entry, headerBytes, entriesBytes, fileBytes}
 use Rattle.jobs.specs.Rules.{goodHeader}
 use Rattle.jobs.specs.Check.{goodEntries, entriesIn, headerIn, goodFile}
 use Rattle.jobs.proofs.Entries.{parts, header-least, header-most}
-use Rattle.rehearsal.specs.Rehearsal.{rehearsed, afterPowerOn, rehearsalOf}
+use Rattle.rehearsal.specs.Rehearsal.{rehearsed, rehearsalOf}
 use Rattle.rehearsal.specs.Answering.{Ready}
 
 module _ (h : Header) (file memory memory′ out out₁ out₂ : List ℕ) (powered : Powered) (ok : goodFile file ≡ true) (is : h ≡ headerIn file)
@@ -27,9 +28,8 @@ module _ (h : Header) (file memory memory′ out out₁ out₂ : List ℕ) (powe
       ap₂ (λ (t u : Bool). t && u && eqb (length memory) (256 * h .n)) (le-leb 1 (h .n) (header-least h good)) (le-leb (h .n) 32 (header-most h good))
       ∙ eq-eqb (length memory) (256 * h .n) size
 
-  pub switched-on : memory′ ≡ afterPowerOn (h .n)
-  unfolding memoryOf
-  switched-on = on .leaves ∙ ap (λ (t : Bool). cond t (afterPowerOn (h .n)) memory) a-chain
+  from-power-on : memory′ ≡ powerOnMemory (h .n)
+  from-power-on = switched-on (h .n) memory memory′ powered on a-chain
 
   abbrev es : List Entry
   es = entriesIn (drop 7 file)
@@ -38,8 +38,8 @@ module _ (h : Header) (file memory memory′ out out₁ out₂ : List ℕ) (powe
   pub in-parts : rehearsalOf file ≡ headerBytes h ++ entriesBytes (rehearsed h memory′ es)
   unfolding rehearsalOf
   in-parts =
-      ap (λ (x : Header). fileBytes x (rehearsed x (afterPowerOn (x .n)) es)) (sym is)
-      ∙ ap (λ (m : List ℕ). headerBytes h ++ entriesBytes (rehearsed h m es)) (sym switched-on)
+      ap (λ (x : Header). fileBytes x (rehearsed x (powerOnMemory (x .n)) es)) (sym is)
+      ∙ ap (λ (m : List ℕ). headerBytes h ++ entriesBytes (rehearsed h m es)) (sym from-power-on)
 
   pub ready : length memory′ ≡ length memory → Ready h file memory′ out₁
   ready kept = record {

@@ -18,7 +18,7 @@ use Rattle.readings.specs.Reading.{numberOf}
 use Rattle.commands.specs.Command.{commandLine}
 use Rattle.acceptance.specs.Answer.{Registers, Sendable, AnswerTo}
 use Rattle.acceptance.proofs.AnswerIsAccepted.{answer-is-accepted, accepted-reading}
-use Rattle.twin.specs.Step.{Standing, standing, hops}
+use Rattle.twin.specs.Step.{Chain, chainWith, hops}
 use Rattle.twin.proofs.Stepping.{hops-memory}
 use Rattle.roundtrip.specs.Between.{held, broughtBack}
 use Rattle.roundtrip.proofs.RoundTrip.{right-answer}
@@ -32,14 +32,14 @@ use Rattle.rehearsal.specs.Accepted.{AcceptedFrom, FromChain}
 use Rattle.rehearsal.specs.Accepted.FromChain.{good as answered-good, bad as not-sent}
 use Rattle.rehearsal.proofs.Sending.{sent-good, sent-bad, few-words, answer-length}
 
--- a chain: 1 to 32 devices with 256 registers each, of 16 bits
-pub record Chain (n : ℕ) (memory : List ℕ) : Type 0 where
+-- the memory of a chain: 1 to 32 devices with 256 registers each, of 16 bits
+pub record ChainMemory (n : ℕ) (memory : List ℕ) : Type 0 where
   pub least : 1 ≤ n
   pub most : n ≤ 32
   pub size : length memory ≡ 256 * n
   pub words : Registers memory
 
-module _ (h : Header) (e : Entry) (fits : Fits e) (memory : List ℕ) (c : Chain (h .n) memory) where
+module _ (h : Header) (e : Entry) (fits : Fits e) (memory : List ℕ) (c : ChainMemory (h .n) memory) where
   abbrev q : Question
   q = asked h e
 
@@ -50,8 +50,8 @@ module _ (h : Header) (e : Entry) (fits : Fits e) (memory : List ℕ) (c : Chain
   sends = record { reg = fits .reg; value = fits .value }
 
   module _ (good : goodQuestion q ≡ true) where
-    abbrev end : Standing
-    end = hops n n (standing memory (commandLine q))
+    abbrev end : Chain
+    end = hops n n (chainWith memory (commandLine q))
 
     answer : AnswerTo q (broughtBack q n memory) (end .line)
     answer = right-answer q good sends n (λ some. refl) (c .least) (c .most) memory (c .words)
@@ -59,34 +59,34 @@ module _ (h : Header) (e : Entry) (fits : Fits e) (memory : List ℕ) (c : Chain
     is-accepted : AcceptedFrom q n memory (sent n memory q .line)
     is-accepted =
         let is = answer-is-accepted q good sends 32 (good-values q good) (broughtBack q n memory) (end .line) answer in
-        subst (AcceptedFrom q n memory) (sym (ap (λ (s : Standing). s .line) (sent-good n memory q good)))
+        subst (AcceptedFrom q n memory) (sym (ap (λ (s : Chain). s .line) (sent-good n memory q good)))
         (record { accepted = ap numberOf (is .0) ∙ accepted-reading q (broughtBack q n memory) (answer .fitting); reading = is .0; values = is .1 })
 
     -- the words that come back are words
     sent-wide : (i : ℕ) → getD (sent n memory q .line) i 0 < 65536
     sent-wide i =
-        subst (λ (l : List ℕ). getD l i 0 < 65536) (sym (ap (λ (s : Standing). s .line) (sent-good n memory q good) ∙ answer .written))
+        subst (λ (l : List ℕ). getD l i 0 < 65536) (sym (ap (λ (s : Chain). s .line) (sent-good n memory q good) ∙ answer .written))
         (line-wide (answerBytes q (broughtBack q n memory) 0) i)
 
-    still-chain : Chain n (sent n memory q .memory)
+    still-chain : ChainMemory n (sent n memory q .memory)
     still-chain =
-        subst (Chain n) (sym (ap (λ (s : Standing). s .memory) (sent-good n memory q good)))
+        subst (ChainMemory n) (sym (ap (λ (s : Chain). s .memory) (sent-good n memory q good)))
         (record {
           least = c .least;
           most = c .most;
-          size = hops-memory n n (standing memory (commandLine q)) ∙ c .size;
+          size = hops-memory n n (chainWith memory (commandLine q)) ∙ c .size;
           words = still-registers q good sends n (λ some. refl) (c .least) (c .most) memory (c .words) (c .size);
         })
 
   wide-either : (t : Bool) → goodQuestion q ≡ t → (i : ℕ) → getD (sent n memory q .line) i 0 < 65536
   wide-either true good i = sent-wide good i
-  wide-either false bad i = subst (λ (l : List ℕ). getD l i 0 < 65536) (sym (ap (λ (s : Standing). s .line) (sent-bad n memory q bad))) (omega arith)
+  wide-either false bad i = subst (λ (l : List ℕ). getD l i 0 < 65536) (sym (ap (λ (s : Chain). s .line) (sent-bad n memory q bad))) (omega arith)
 
-  chain-either : (t : Bool) → goodQuestion q ≡ t → Chain n (sent n memory q .memory)
+  chain-either : (t : Bool) → goodQuestion q ≡ t → ChainMemory n (sent n memory q .memory)
   chain-either true good = still-chain good
-  chain-either false bad = subst (Chain n) (sym (ap (λ (s : Standing). s .memory) (sent-bad n memory q bad))) c
+  chain-either false bad = subst (ChainMemory n) (sym (ap (λ (s : Chain). s .memory) (sent-bad n memory q bad))) c
 
-  pub chain-after : Chain n (sent n memory q .memory)
+  pub chain-after : ChainMemory n (sent n memory q .memory)
   chain-after = chain-either (goodQuestion q) refl
 
   -- the entry with its answer fits, and keeps the rules
@@ -116,8 +116,8 @@ module _ (h : Header) (e : Entry) (fits : Fits e) (memory : List ℕ) (c : Chain
       by-test : (t : Bool) → goodQuestion q ≡ t → FromChain h memory (withWords e (sent n memory q .line) ∷ es)
       by-test true good =
           answered-good memory (sent n memory q .memory) (withWords e (sent n memory q .line)) es good (is-accepted good)
-          (λ k i inside. ap (λ (s : Standing). held (s .memory) k i) (sent-good n memory q good)
+          (λ k i inside. ap (λ (s : Chain). held (s .memory) k i) (sent-good n memory q good)
           ∙ held-after q good sends n (λ some. refl) (c .least) (c .most) memory (c .words) (c .size) k i inside) later
       by-test false bad =
-          not-sent memory (withWords e (sent n memory q .line)) es bad (ap (λ (s : Standing). s .line) (sent-bad n memory q bad))
-          (subst (λ (m : List ℕ). FromChain h m es) (ap (λ (s : Standing). s .memory) (sent-bad n memory q bad)) later)
+          not-sent memory (withWords e (sent n memory q .line)) es bad (ap (λ (s : Chain). s .line) (sent-bad n memory q bad))
+          (subst (λ (m : List ℕ). FromChain h m es) (ap (λ (s : Chain). s .memory) (sent-bad n memory q bad)) later)

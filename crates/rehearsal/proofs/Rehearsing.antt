@@ -1,5 +1,5 @@
 -- The call's answers: FILE, then ROOM, else the whole file anew.
-use mathlib.Core.Path.{_≡_, refl, _∙_}
+use mathlib.Core.Path.{_≡_, refl, ap, _∙_}
 use mathlib.Core.Bool.{Bool, true, false, cond}
 use mathlib.Core.List.{List}
 use Prim.Native.Nat.{ℕ, _≤_, _<_}
@@ -9,36 +9,45 @@ use lib.ListN.{length}
 use lib.Seq.{sets}
 use borrow.Author.Tests.{leb-true, le-leb, lt-leb}
 use Rattle.ground.proofs.Lists.{sets-front}
+use Rattle.lines.specs.Write.{atFront, leftBy}
 use Rattle.jobs.specs.Check.{goodFile}
+use Rattle.rehearsal.specs.declared.Rehearsed.{Rehearsed}
 use Rattle.rehearsal.specs.declared.Rehearsed.the-variants.{Bytes, File, Room}
-use Rattle.rehearsal.specs.Rehearsal.{rehearsalOf, rehearsedOf, outAfter, RehearsalDone}
+use Rattle.rehearsal.specs.Rehearsal.{rehearsalOf, rehearsedOf, rehearsedNumber, RehearsalDone}
 
 module _ (file out : List ℕ) where
+  -- the lent memory by the answer
+  abbrev left : Rehearsed → List ℕ
+  left r = leftBy (rehearsedNumber r) (atFront (rehearsalOf file) out) out
+
   pub no-job-file : goodFile file ≡ false → RehearsalDone file out out File
-  unfolding rehearsedOf outAfter
-  no-job-file bad = record { says = simp bad; leaves = simp bad }
+  unfolding rehearsedOf
+  no-job-file bad =
+      let says : File ≡ rehearsedOf file out = simp bad in
+      record { says = says; leaves = ap left says }
 
   module _ (ok : goodFile file ≡ true) where
     pub too-long : 65536 < length (rehearsalOf file) → RehearsalDone file out out File
-    unfolding rehearsedOf outAfter
+    unfolding rehearsedOf
     too-long long =
-        let over = lt-leb (length (rehearsalOf file)) 65536 long in
-        record { says = simp (ok, over); leaves = simp (ok, over) }
+        let says : File ≡ rehearsedOf file out = simp (ok, lt-leb (length (rehearsalOf file)) 65536 long) in
+        record { says = says; leaves = ap left says }
 
     pub too-little-room : length (rehearsalOf file) ≤ 65536 → length out < length (rehearsalOf file) → RehearsalDone file out out Room
-    unfolding rehearsedOf outAfter
+    unfolding rehearsedOf
     too-little-room short less =
         let fits = le-leb (length (rehearsalOf file)) 65536 short in
-        let over = lt-leb (length (rehearsalOf file)) (length out) less in
-        record { says = simp (ok, fits, over); leaves = simp (ok, fits, over) }
+        let says : Room ≡ rehearsedOf file out = simp (ok, fits, lt-leb (length (rehearsalOf file)) (length out) less) in
+        record { says = says; leaves = ap left says }
 
     pub anew : (after : List ℕ) (bytes : ℕ) → bytes ≡ length (rehearsalOf file) → length (rehearsalOf file) ≤ 65536
         → length (rehearsalOf file) ≤ length out → after ≡ sets out 0 (rehearsalOf file) → RehearsalDone file out after (Bytes bytes)
-    unfolding rehearsedOf outAfter
+    unfolding rehearsedOf
     anew after bytes is short room leaves =
         let fits = le-leb (length (rehearsalOf file)) 65536 short in
         let enough = le-leb (length (rehearsalOf file)) (length out) room in
-        record { says = simp (ok, fits, enough, is); leaves = simp (ok, fits, enough) (leaves ∙ sets-front (rehearsalOf file) out room) }
+        let says : Bytes bytes ≡ rehearsedOf file out = simp (ok, fits, enough, is) in
+        record { says = says; leaves = leaves ∙ sets-front (rehearsalOf file) out room ∙ ap left says }
 
 -- what is written lies within the lent memory
 pub written-within : (file out : List ℕ) (n : ℕ) → rehearsedOf file out ≡ Bytes n → n ≤ length out

@@ -20,20 +20,20 @@ use Rattle.commands.proofs.Issued as issued-command
 use Rattle.commands.proofs.Issuing.{issued-good, issued-words, command-written}
 use Rattle.acceptance.proofs.Lengths.{command-words}
 use Rattle.registers.specs.Memory.{isChain}
-use Rattle.twin.specs.Step.{Standing, standing, hops, ChainDone}
+use Rattle.twin.specs.Step.{Chain, chainWith, hops, ChainDone}
 use Rattle.twin.specs.declared.step.Stepped.{Stepped}
 use Rattle.twin.proofs.Stepping.{leaves-line, leaves-memory, hops-length}
 use Rattle.rehearsal.specs.Rehearsal.{answerWords, sent}
 use Rattle.rehearsal.specs.Answering.{SentDone}
 
 module _ (n : ℕ) (memory : List ℕ) (q : Question) where
-  pub sent-good : goodQuestion q ≡ true → sent n memory q ≡ hops n n (standing memory (commandLine q))
+  pub sent-good : goodQuestion q ≡ true → sent n memory q ≡ hops n n (chainWith memory (commandLine q))
   unfolding sent
-  sent-good good = ap (λ (t : Bool). cond t (hops n n (standing memory (commandLine q))) (standing memory [])) good
+  sent-good good = ap (λ (t : Bool). cond t (hops n n (chainWith memory (commandLine q))) (chainWith memory [])) good
 
-  pub sent-bad : goodQuestion q ≡ false → sent n memory q ≡ standing memory []
+  pub sent-bad : goodQuestion q ≡ false → sent n memory q ≡ chainWith memory []
   unfolding sent
-  sent-bad bad = ap (λ (t : Bool). cond t (hops n n (standing memory (commandLine q))) (standing memory [])) bad
+  sent-bad bad = ap (λ (t : Bool). cond t (hops n n (chainWith memory (commandLine q))) (chainWith memory [])) bad
 
 module _ (q : Question) where
   pub words-good : goodQuestion q ≡ true → answerWords q ≡ length (commandLine q)
@@ -57,46 +57,46 @@ module _ (q : Question) where
     where
       by-test : (t : Bool) → goodQuestion q ≡ t → length (sent n memory q .line) ≡ answerWords q
       by-test true good =
-          ap (λ (s : Standing). length (s .line)) (sent-good n memory q good) ∙ hops-length n n (standing memory (commandLine q)) ∙ sym (words-good good)
-      by-test false bad = ap (λ (s : Standing). length (s .line)) (sent-bad n memory q bad) ∙ sym (words-bad bad)
+          ap (λ (s : Chain). length (s .line)) (sent-good n memory q good) ∙ hops-length n n (chainWith memory (commandLine q)) ∙ sym (words-good good)
+      by-test false bad = ap (λ (s : Chain). length (s .line)) (sent-bad n memory q bad) ∙ sym (words-bad bad)
 
 -- ---- the call
 
 module _ (n : ℕ) (q : Question) (memory : List ℕ) (blank : List ℕ) (size : length blank ≡ 140) where
-  pub not-sent : (r : Issued) (line : List ℕ) → r ≡ issuedOf q blank → OneOf (1 ∷ 2 ∷ []) (tagOf issued-command.the-type r) → SentDone n q memory memory line 0
+  pub not-sent : (r : Issued) (line : List ℕ) → r ≡ issuedOf q (length blank) → OneOf (1 ∷ 2 ∷ []) (tagOf issued-command.the-type r) → SentDone n q memory memory line 0
   not-sent r line says other =
       let bad : goodQuestion q ≡ false = refuted (goodQuestion q) (λ good.
       miss (1 ∷ 2 ∷ []) 0 tt
       (subst (λ (x : Issued). OneOf (1 ∷ 2 ∷ []) (tagOf issued-command.the-type x))
-      (says ∙ issued-good q blank good (omega (arith, command-words q good, words-most q good))) other)) in
+      (says ∙ issued-good q (length blank) good (omega (arith, command-words q good, words-most q good))) other)) in
       record {
         words = sym (words-bad q bad);
-        comes = sym (ap (λ (s : Standing). s .line) (sent-bad n memory q bad));
-        remembers = sym (ap (λ (s : Standing). s .memory) (sent-bad n memory q bad));
+        comes = sym (ap (λ (s : Chain). s .line) (sent-bad n memory q bad));
+        remembers = sym (ap (λ (s : Chain). s .memory) (sent-bad n memory q bad));
       }
 
   -- as many words as the command has
-  pub within : (words : ℕ) → issuedOf q blank ≡ issued.Words words → words ≤ 140
-  within words says = omega (arith, issued-words q blank words says .number, issued-words q blank words says .room)
+  pub within : (words : ℕ) → issuedOf q (length blank) ≡ issued.Words words → words ≤ 140
+  within words says = let issues = issued-words q (length blank) words says in omega (arith, issues .number, issues .fits)
 
   pub was-sent : (r : Issued) (words : ℕ) (command line line′ memory′ : List ℕ) (stepped : Stepped) → CommandPut q blank command r
       → r ≡ issued.Words words → isChain n (length memory) ≡ true → length line ≡ 140
       → ChainDone n memory memory′ (take words command) line line′ stepped → SentDone n q memory memory′ line′ words
   was-sent r words command line line′ memory′ stepped put is chain room done =
-      let issues = issued-words q blank words (sym (put .says) ∙ is) in
+      let issues = issued-words q (length blank) words (sym (put .says) ∙ is) in
       let sends : take words command ≡ commandLine q =
-      ap (take words) (command-written q blank command r put (issues .good) (issues .room))
+      ap (take words) (command-written q blank command r put (issues .good) (issues .fits))
       ∙ take-at (commandLine q) (drop (length (commandLine q)) blank) words (sym (issues .number)) in
-      let start = standing memory (commandLine q) in
+      let start = chainWith memory (commandLine q) in
       let end = hops n n start in
       let done′ = subst (λ (l : List ℕ). ChainDone n memory memory′ l line line′ stepped) sends done in
-      let enough : length (commandLine q) ≤ length line = omega (arith, issues .room) in
+      let enough : length (commandLine q) ≤ length line = omega (arith, issues .fits) in
       record {
         words = issues .number ∙ sym (words-good q (issues .good));
         comes =
             ap (take words) (leaves-line start end line line′ memory′ stepped _ done′ chain enough)
             ∙ take-at (end .line) (drop (length (end .line)) line) words (hops-length n n start ∙ sym (issues .number))
-            ∙ sym (ap (λ (s : Standing). s .line) (sent-good n memory q (issues .good)));
+            ∙ sym (ap (λ (s : Chain). s .line) (sent-good n memory q (issues .good)));
         remembers =
-            leaves-memory start end line line′ memory′ stepped _ done′ chain enough ∙ sym (ap (λ (s : Standing). s .memory) (sent-good n memory q (issues .good)));
+            leaves-memory start end line line′ memory′ stepped _ done′ chain enough ∙ sym (ap (λ (s : Chain). s .memory) (sent-good n memory q (issues .good)));
       }

@@ -1,15 +1,15 @@
 -- What a rehearsal shows: the answers that came back are right answers of a chain whose registers change by the writes alone.
 use mathlib.Core.Path.{_≡_}
-use mathlib.Core.Bool.{true, false, cond}
+use mathlib.Core.Bool.{true, false}
 use mathlib.Core.List.{List, [], _∷_}
-use Prim.Native.Nat.{ℕ, _<_}
+use Prim.Native.Nat.{ℕ}
 use Rattle.questions.specs.Question.{goodQuestion}
 use Rattle.questions.specs.declared.question.Question.{Question}
 use Rattle.readings.specs.Reading.{numberOf, valuesTaken}
 use Rattle.judging.specs.Judge.{judgeOf}
 use Rattle.reader.specs.Read.{valuesOn}
 use Rattle.acceptance.specs.Answer.{readingOf, handedOut}
-use Rattle.roundtrip.specs.Between.{held, broughtBack, reaches}
+use Rattle.roundtrip.specs.Between.{broughtBack, ChangedBy}
 use Rattle.jobs.specs.declared.Header.{Header}
 use Rattle.jobs.specs.Format.{Entry, asked}
 
@@ -19,10 +19,6 @@ pub record AcceptedFrom (q : Question) (n : ℕ) (memory line : List ℕ) : Type
   pub accepted : numberOf (judgeOf q line 32) ≡ 0
   pub reading : judgeOf q line 32 ≡ readingOf q (broughtBack q n memory)
   pub values : valuesOn line (valuesTaken (judgeOf q line 32)) ≡ handedOut q (broughtBack q n memory)
-
--- the registers after a question: a write's value where it reaches, all else as it was
-abbrev pub ChangedBy : (q : Question) (n : ℕ) (memory after : List ℕ) → Type 0
-ChangedBy q n memory after = (k i : ℕ) → k < n → held after k i ≡ cond (reaches q k i) (q .value) (held memory k i)
 
 -- entries whose answers came from a chain with these registers: every good question's is accepted, a bad question's has no words
 pub data FromChain (h : Header) : (memory : List ℕ) → List Entry → Type 0 where

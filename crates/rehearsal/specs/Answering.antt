@@ -1,14 +1,14 @@
 -- The entries answered one after the other.
 use mathlib.Core.Path.{_≡_}
 use mathlib.Core.Bool.{true}
-use mathlib.Core.List.{List, [], _∷_}
-use Prim.Native.Nat.{ℕ, _+_, _*_, _/_, _%_, _≤_}
+use mathlib.Core.List.{List}
+use Prim.Native.Nat.{ℕ, _+_, _*_, _≤_}
 use lib.ListN.{length, take, drop}
 use lib.Seq.{sets}
 use Rattle.questions.specs.declared.question.Question.{Question}
 use Rattle.registers.specs.Memory.{isChain}
 use Rattle.jobs.specs.declared.Header.{Header}
-use Rattle.jobs.specs.Format.{Entry, entryBytes, entriesBytes}
+use Rattle.jobs.specs.Format.{Entry, fieldBytes, entryBytes, entriesBytes}
 use Rattle.jobs.specs.Check.{wordsIn, askedIn, entryIn, entriesIn, goodEntries}
 use Rattle.rehearsal.specs.declared.Places.{Places}
 use Rattle.rehearsal.specs.Rehearsal.{answerWords, sent, withWords, rehearsed}
@@ -20,9 +20,8 @@ pub record SentDone (n : ℕ) (q : Question) (memory memoryLeft line : List ℕ)
   pub remembers : memoryLeft ≡ sent n memory q .memory
 
 -- an entry's eight bytes before its words
-abbrev pub fieldBytes : Question → (words : ℕ) → List ℕ
-fieldBytes q words =
-    q .kind ∷ q .reg ∷ (q .value % 256) ∷ (q .value / 256) ∷ q .device ∷ q .seed ∷ (words % 256) ∷ (words / 256) ∷ []
+abbrev pub fieldsFor : Question → (words : ℕ) → List ℕ
+fieldsFor q words = fieldBytes (q .kind) (q .reg) (q .value) (q .device) (q .seed) words
 
 -- the places behind an entry
 abbrev pub entryWith : Header → (file : List ℕ) → Places → Places

@@ -3,17 +3,16 @@
 use mathlib.Core.Path.{_≡_}
 use mathlib.Core.Bool.{cond}
 use mathlib.Core.List.{List, [], _∷_}
-use Prim.Native.Nat.{ℕ, _*_}
+use Prim.Native.Nat.{ℕ}
 use lib.Dec.{leb}
 use lib.ListN.{length, drop}
-use Rattle.ground.specs.Sweep.{tabulated}
-use Rattle.lines.specs.Write.{atFront}
+use Rattle.lines.specs.Write.{atFront, leftBy}
 use Rattle.questions.specs.Question.{goodQuestion}
 use Rattle.questions.specs.Shape.{shapeOf}
 use Rattle.questions.specs.declared.question.Question.{Question}
 use Rattle.commands.specs.Command.{commandLine}
-use Rattle.registers.specs.Memory.{fresh}
-use Rattle.twin.specs.Step.{Standing, standing, hops}
+use Rattle.registers.specs.Memory.{powerOnMemory}
+use Rattle.twin.specs.Step.{Chain, chainWith, hops}
 use Rattle.jobs.specs.declared.Header.{Header}
 use Rattle.jobs.specs.Format.{Entry, asked, fileBytes}
 use Rattle.jobs.specs.Check.{goodFile, headerIn, entriesIn}
@@ -21,8 +20,8 @@ use Rattle.rehearsal.specs.declared.Rehearsed.{Rehearsed}
 use Rattle.rehearsal.specs.declared.Rehearsed.the-variants.{Bytes, File, Room}
 
 -- the chain after a question, and the line that comes back
-unfoldable pub sent : (n : ℕ) → (memory : List ℕ) → Question → Standing
-sent n memory q = cond (goodQuestion q) (hops n n (standing memory (commandLine q))) (standing memory [])
+unfoldable pub sent : (n : ℕ) → (memory : List ℕ) → Question → Chain
+sent n memory q = cond (goodQuestion q) (hops n n (chainWith memory (commandLine q))) (chainWith memory [])
 
 -- an entry with these words for its answer
 abbrev pub withWords : Entry → List ℕ → Entry
@@ -33,13 +32,9 @@ unfoldable pub rehearsed : Header → (memory : List ℕ) → List Entry → Lis
 rehearsed h memory [] = []
 rehearsed h memory (e ∷ es) = withWords e (sent (h .n) memory (asked h e) .line) ∷ rehearsed h (sent (h .n) memory (asked h e) .memory) es
 
--- the registers of n devices after power-on
-abbrev pub afterPowerOn : (n : ℕ) → List ℕ
-afterPowerOn n = tabulated fresh (256 * n) 0
-
 -- the answered file
 unfoldable pub rehearsalOf : (file : List ℕ) → List ℕ
-rehearsalOf file = fileBytes (headerIn file) (rehearsed (headerIn file) (afterPowerOn (headerIn file .n)) (entriesIn (drop 7 file)))
+rehearsalOf file = fileBytes (headerIn file) (rehearsed (headerIn file) (powerOnMemory (headerIn file .n)) (entriesIn (drop 7 file)))
 
 -- the answer: FILE, also where the answered file would be too long; then ROOM
 unfoldable pub rehearsedOf : (file out : List ℕ) → Rehearsed
@@ -50,25 +45,16 @@ rehearsedOf file out =
     File)
     File
 
--- the lent memory after the call
-unfoldable pub outAfter : (file out : List ℕ) → List ℕ
-outAfter file out =
-    cond (goodFile file)
-    (cond (leb (length (rehearsalOf file)) 65536)
-    (cond (leb (length (rehearsalOf file)) (length out)) (atFront (rehearsalOf file) out) out)
-    out)
-    out
-
--- what `rehearse` says and leaves
-pub record RehearsalDone (file before after : List ℕ) (r : Rehearsed) : Type 0 where
-  pub says : r ≡ rehearsedOf file before
-  pub leaves : after ≡ outAfter file before
-
 -- document 01's number of an answer
 abbrev pub rehearsedNumber : Rehearsed → ℕ
 rehearsedNumber (Bytes n) = 0
 rehearsedNumber File = 14
 rehearsedNumber Room = 2
+
+-- what `rehearse` says and leaves
+pub record RehearsalDone (file before after : List ℕ) (r : Rehearsed) : Type 0 where
+  pub says : r ≡ rehearsedOf file before
+  pub leaves : after ≡ leftBy (rehearsedNumber (rehearsedOf file before)) (atFront (rehearsalOf file) before) before
 
 -- how many words come back: as many as the command has
 unfoldable pub answerWords : Question → ℕ

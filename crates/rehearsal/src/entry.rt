@@ -18,7 +18,7 @@ ghost use lib.Seq.{sets};
 ghost use Rattle.packing.specs.Words.{asBytes};
 ghost use Rattle.registers.specs.Memory.{isChain};
 ghost use Rattle.jobs.specs.Check.{goodEntries};
-ghost use Rattle.rehearsal.specs.Answering.{SentDone, fieldBytes, AnsweredOne};
+ghost use Rattle.rehearsal.specs.Answering.{SentDone, fieldsFor, AnsweredOne};
 
 // One entry more, with its answer.
 pub(crate) fn answer_entry(
@@ -63,7 +63,7 @@ fn send(n: u8, q: Question, memory: &mut [u16], line: &mut [u16]) -> usize
 
 fn put_fields(out: &mut [u8], to: usize, q: Question, words: usize)
     requires { ⌜ words ≤ 140 ⌝ }
-    ensures { λ _. ⌜ now (out .exit) ≡ sets (now (out .entry)) to (fieldBytes q words) ⌝ }
+    ensures { λ _. ⌜ now (out .exit) ≡ sets (now (out .entry)) to (fieldsFor q words) ⌝ }
 {
     let low = (q.value % 256) as u8;
     let high = (q.value / 256) as u8;

@@ -17,7 +17,7 @@ use Rattle.questions.proofs.ByKind.{of-hello, of-write, of-read}
 use Rattle.questions.proofs.Good.{good-kind}
 use Rattle.acceptance.specs.Answer.{Registers, Sendable, Fitting}
 use Rattle.acceptance.specs.Answer.Fitting.{hello, write, read}
-use Rattle.acceptance.proofs.Wire.{length-wire}
+use Rattle.questions.proofs.Wire.{length-wire}
 use Rattle.underway.specs.OnTheWay.{onTheWay}
 use Rattle.underway.proofs.Way.{way-hello, way-write, way-read}
 use Rattle.roundtrip.specs.Between.{acted, putIn, lineBetween, broughtBack}

@@ -10,6 +10,7 @@ use borrow.Author.Tests.{le-ltb}
 use Rattle.lines.specs.Line.{lineOf}
 use Rattle.questions.specs.Question.{byForm}
 use Rattle.questions.specs.Shape.{shapeOf}
+use Rattle.packing.specs.Words.{asBytes}
 use Rattle.questions.specs.Bytes.{onWire, fillPairs, sealed, writeCovered, commandBytes}
 use Rattle.commands.specs.Command.{commandLine}
 use Rattle.questions.specs.declared.question.Question.{Question}
@@ -38,7 +39,7 @@ none-put q memory kind =
     (ap (λ (t : Bool). cond t (one ∷ []) []) (nobody (q .device))) (q .kind) kind
 
 unsent : (q : Question) → commandBytes q ≡ onTheWay q 0 0 (onWire [])
-unfolding commandBytes onTheWay onWire
+unfolding commandBytes onTheWay onWire asBytes
 unsent q =
     ap (λ (p : ℕ). byForm (q .kind) (shapeOf q .first ∷ 0 ∷ 0 ∷ []) (sealed q 0 (writeCovered q)) (sealed q 0 (shapeOf q .first ∷ q .reg ∷ 0 ∷ []) ++ fillPairs p))
     (sym (sub-zero (shapeOf q .values)))

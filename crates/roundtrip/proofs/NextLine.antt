@@ -13,7 +13,8 @@ use Rattle.questions.specs.Question.{covers}
 use Rattle.questions.specs.Bytes.{lowHigh, onWire}
 use Rattle.questions.specs.declared.question.Question.{Question}
 use Rattle.acceptance.specs.Answer.{Registers, Sendable}
-use Rattle.acceptance.proofs.Wire.{length-wire, wire-bytes}
+use Rattle.questions.proofs.Wire.{length-wire, wire-next}
+use Rattle.acceptance.proofs.Wire.{wire-bytes}
 use Rattle.hearing.specs.Hear.{carried}
 use Rattle.underway.specs.OnTheWay.{onTheWay}
 use Rattle.passage.specs.Acting.{acts, handedOn}
@@ -24,7 +25,6 @@ use Rattle.passage.specs.declared.pass.Change.{Change}
 use Rattle.passage.specs.declared.pass.Change.the-variants.{Nothing}
 use Rattle.twin.specs.Step.{registersOf}
 use Rattle.roundtrip.specs.Between.{held, acted, putIn, lineBetween, For}
-use Rattle.roundtrip.proofs.Values.{wire-next}
 use Rattle.roundtrip.proofs.WhereItActs.{write-alone}
 use Rattle.roundtrip.proofs.Acting.{acts-on}
 

@@ -4,10 +4,10 @@ use mathlib.Core.Logic.{⊎-elim}
 use Prim.Native.Nat.{ℕ, zero, suc, _≤_, _<_}
 use native.Mathlib.Nat.{eq-or-lt-of-le}
 use native.Mathlib.Omega.{arith}
-use Rattle.twin.specs.Step.{registersOf, Standing, hops}
+use Rattle.twin.specs.Step.{registersOf, Chain, hops}
 use Rattle.twin.proofs.Registers.{hop-other}
 
-module _ (n : ℕ) (s : Standing) where
+module _ (n : ℕ) (s : Chain) where
   -- not yet
   pub untouched : (m j : ℕ) → m ≤ j → registersOf (hops n m s .memory) j ≡ registersOf (s .memory) j
   unfolding hops

@@ -9,19 +9,20 @@ use native.Mathlib.Nat.{eq-zero-or-pos}
 use lib.ListN.{length}
 use Rattle.passage.specs.Pass.{changeAsked, changeOf, changed}
 use Rattle.twin.proofs.Registers.{hop-own}
+use Rattle.twin.proofs.Stepping.{hop-unacted}
 use Rattle.roundtrip.specs.Between.{held}
 use Rattle.ground.proofs.Sweep.{length-tabulated}
 use Rattle.lines.specs.Line.{lineOf, byteAt}
 use Rattle.questions.specs.Bytes.{onWire, lowHigh}
 use Rattle.questions.specs.declared.question.Question.{Question}
-use Rattle.acceptance.proofs.Wire.{length-wire, wire-bytes}
+use Rattle.questions.proofs.Wire.{length-wire}
+use Rattle.acceptance.proofs.Wire.{wire-bytes}
 use Rattle.hearing.specs.Hear.{carried, plainly, heard}
 use Rattle.underway.specs.OnTheWay.{onTheWay, wireOf}
 use Rattle.passage.specs.Acting.{acts, handedOn}
 use Rattle.hearing.proofs.Hearing.{heard-either, heard-good, heard-n, place-below}
-use Rattle.passage.proofs.Passing.{left-unchanged, nothing-stored}
 use Rattle.passage.proofs.EqualLength.{acts-place, acts-met}
-use Rattle.twin.specs.Step.{registersOf, withChange, Standing, hop}
+use Rattle.twin.specs.Step.{registersOf, Chain, hop}
 use Rattle.roundtrip.specs.Commands.{CommandFor}
 use Rattle.roundtrip.proofs.Values.{valuesOf, values-number, values-wire, values-registers}
 use Rattle.roundtrip.proofs.WhereItActs.{Acts}
@@ -65,19 +66,16 @@ module _ (n k : ℕ) (line : List ℕ) where
       (eq-zero-or-pos (q .kind)))
 
 -- A line that is no command for device k leaves that device's step nothing to do.
-pub no-command-no-change : (n k : ℕ) (s : Standing) → (CommandFor n k (s .line) → ⊥) → (hop n k s .line ≡ s .line) × (hop n k s .memory ≡ s .memory)
+pub no-command-no-change : (n k : ℕ) (s : Chain) → (CommandFor n k (s .line) → ⊥) → (hop n k s .line ≡ s .line) × (hop n k s .memory ≡ s .memory)
 no-command-no-change n k s none = by-test (acts n k (s .line)) refl
   where
     by-test : (t : Bool) → acts n k (s .line) ≡ t → (hop n k s .line ≡ s .line) × (hop n k s .memory ≡ s .memory)
     by-test true e = absurd (none (only-commands n k (s .line) e))
-    by-test false e = (
-      left-unchanged n k (registersOf (s .memory) k) (s .line) e,
-      ap (withChange (s .memory) k) (nothing-stored n k (registersOf (s .memory) k) (s .line) e),
-    )
+    by-test false e = let same = hop-unacted n k s e in (ap (λ (x : Chain). x .line) same, ap (λ (x : Chain). x .memory) same)
 
 -- EACH STEP BY ITS RULE, said without the device's own test: on a command for it the device hands on that command with HELLOALL's last byte
 -- and the alive byte one more and its own value directly after the register byte, and does to its registers what the command asks.
-pub by-its-rule : (n k : ℕ) (s : Standing) (c : CommandFor n k (s .line))
+pub by-its-rule : (n k : ℕ) (s : Chain) (c : CommandFor n k (s .line))
     → (hop n k s .line ≡ lineOf (onTheWay (c .question) (suc k) 1 (lowHigh (held (s .memory) k (c .question .reg)) ++ onWire (c .values))))
     × (registersOf (hop n k s .memory) k ≡ changed (registersOf (s .memory) k) (changeAsked (c .question)))
 by-its-rule n k s c =

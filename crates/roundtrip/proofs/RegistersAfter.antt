@@ -20,8 +20,8 @@ use Rattle.acceptance.specs.Answer.{Registers, Sendable}
 use Rattle.passage.specs.Pass.{storeOf, changeAsked, changed}
 use Rattle.passage.specs.declared.pass.Change.{Change}
 use Rattle.passage.specs.declared.pass.Change.the-variants.{Nothing, Store}
-use Rattle.twin.specs.Step.{registersOf, standing, hops}
-use Rattle.roundtrip.specs.Between.{held, writeReaches, reaches}
+use Rattle.twin.specs.Step.{registersOf, chainWith, hops}
+use Rattle.roundtrip.specs.Between.{held, writeReaches, reaches, ChangedBy}
 use Rattle.twin.proofs.Stepping.{hops-memory}
 use Rattle.roundtrip.proofs.Values.{held-lt}
 use Rattle.roundtrip.proofs.RoundTrip.{registers-after}
@@ -100,16 +100,16 @@ module _ (q : Question) (registers : List ℕ) (size : length registers ≡ 256)
 
 module _ (q : Question) (good : goodQuestion q ≡ true) (sends : Sendable q) (n : ℕ) (chain : 1 ≤ q .kind → q .n ≡ n) (least : 1 ≤ n) (most : n ≤ 32)
     (memory : List ℕ) (words : Registers memory) (size : length memory ≡ 256 * n) where
-  pub held-after : (k r : ℕ) → k < n → held (hops n n (standing memory (commandLine q)) .memory) k r ≡ cond (reaches q k r) (q .value) (held memory k r)
+  pub held-after : ChangedBy q n memory (hops n n (chainWith memory (commandLine q)) .memory)
   held-after k r h =
       ap (λ (l : List ℕ). getD l r 0) (registers-after q good sends n chain least most memory words k h)
       ∙ by-change q (registersOf memory k) (file-length memory n k size h) (sends .reg) r k
 
   -- every word is still a register's value
-  pub still-registers : Registers (hops n n (standing memory (commandLine q)) .memory)
+  pub still-registers : Registers (hops n n (chainWith memory (commandLine q)) .memory)
   still-registers i =
-      let after = hops n n (standing memory (commandLine q)) .memory in
-      let wide : length after ≡ 256 * n = hops-memory n n (standing memory (commandLine q)) ∙ size in
+      let after = hops n n (chainWith memory (commandLine q)) .memory in
+      let wide : length after ≡ 256 * n = hops-memory n n (chainWith memory (commandLine q)) ∙ size in
       let k = i / 256 in
       let r = i % 256 in
       let there : 256 * k + r ≡ i = omega arith in

@@ -13,7 +13,8 @@ use Rattle.questions.specs.Question.{goodQuestion}
 use Rattle.questions.specs.Bytes.{onWire}
 use Rattle.questions.specs.declared.question.Question.{Question}
 use Rattle.acceptance.specs.Answer.{Registers, Sendable}
-use Rattle.acceptance.proofs.Wire.{length-wire, wire-bytes}
+use Rattle.questions.proofs.Wire.{length-wire}
+use Rattle.acceptance.proofs.Wire.{wire-bytes}
 use Rattle.hearing.specs.Hear.{carried}
 use Rattle.roundtrip.specs.Between.{acted, putAt, putIn, lineBetween}
 use Rattle.roundtrip.proofs.BytesBetween.{first-byte}

@@ -60,6 +60,10 @@ writeReaches q k r = covers q k && eqb r (q .reg) && not (eqb r 0x00)
 unfoldable pub reaches : Question → (k r : ℕ) → Bool
 reaches q k r = byForm (q .kind) false (writeReaches q k r) false
 
+-- the registers of a chain of n after a question: a write's value where it reaches, all else as it was
+abbrev pub ChangedBy : (q : Question) (n : ℕ) (memory after : List ℕ) → Type 0
+ChangedBy q n memory after = (k r : ℕ) → k < n → held after k r ≡ cond (reaches q k r) (q .value) (held memory k r)
+
 -- a good question that device k of a chain of n acts on: one put to all, or to this device
 pub record For (q : Question) (n k : ℕ) : Type 0 where
   pub good : goodQuestion q ≡ true

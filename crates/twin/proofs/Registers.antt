@@ -17,7 +17,7 @@ use Rattle.passage.specs.Pass.{changeAsked, changed, changeOf}
 use Rattle.hearing.proofs.Hearing.{heard-either}
 use Rattle.passage.specs.declared.pass.Change.{Change}
 use Rattle.passage.specs.declared.pass.Change.the-variants as change
-use Rattle.twin.specs.Step.{registersOf, withChange, Standing, hop}
+use Rattle.twin.specs.Step.{registersOf, withChange, Chain, hop}
 
 -- a change of a register is one of the 256
 pub data InFile : Change → Type 0 where
@@ -73,7 +73,7 @@ change-in-file n k line =
 
 -- ---- a step, by its rule
 
-module _ (n k : ℕ) (s : Standing) where
+module _ (n k : ℕ) (s : Chain) where
   -- the device's own registers change as the line asks of it
   pub hop-own : registersOf (hop n k s .memory) k ≡ changed (registersOf (s .memory) k) (changeOf n k (s .line))
   hop-own = own-registers (s .memory) k (changeOf n k (s .line)) (change-in-file n k (s .line))

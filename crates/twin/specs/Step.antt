@@ -5,7 +5,7 @@ use mathlib.Core.List.{List, _++_}
 use Prim.Native.Nat.{ℕ, zero, suc, _+_, _*_}
 use lib.Dec.{leb, ltb}
 use lib.ListN.{length, take, drop, set}
-use Rattle.lines.specs.Write.{atFront}
+use Rattle.lines.specs.Write.{atFront, leftBy}
 use Rattle.passage.specs.Acting.{handedOn}
 use Rattle.passage.specs.Pass.{changeOf}
 use Rattle.passage.specs.declared.pass.Change.{Change}
@@ -24,24 +24,24 @@ withChange memory k change.Nothing = memory
 withChange memory k (change.Store r v) = set memory (256 * k + r) v
 
 -- the chain as it stands between two steps: all registers, and the line
-pub record Standing : Type 0 where
+pub record Chain : Type 0 where
   pub memory : List ℕ
   pub line : List ℕ
 
+abbrev pub chainWith : (memory line : List ℕ) → Chain
+chainWith memory line = record { memory = memory; line = line }
+
 -- device k takes the line as it stands, and hands it on
-abbrev pub hop : (n k : ℕ) → Standing → Standing
-hop n k s = record {
-  memory = withChange (s .memory) k (changeOf n k (s .line));
-  line = handedOn n k (s .line) (registersOf (s .memory) k);
-}
+abbrev pub hop : (n k : ℕ) → Chain → Chain
+hop n k s = chainWith (withChange (s .memory) k (changeOf n k (s .line))) (handedOn n k (s .line) (registersOf (s .memory) k))
 
 -- a device stepped on the words at the front of the output, the rest as it was
 pub record Hopped (n k words : ℕ) (memory memoryLeft out outAfter : List ℕ) : Type 0 where
-  pub remembers : memoryLeft ≡ hop n k (record { memory = memory; line = take words out }) .memory
-  pub leaves : outAfter ≡ hop n k (record { memory = memory; line = take words out }) .line ++ drop words out
+  pub remembers : memoryLeft ≡ hop n k (chainWith memory (take words out)) .memory
+  pub leaves : outAfter ≡ hop n k (chainWith memory (take words out)) .line ++ drop words out
 
 -- the first m devices of n, in address order
-unfoldable pub hops : (n m : ℕ) → Standing → Standing
+unfoldable pub hops : (n m : ℕ) → Chain → Chain
 hops n zero s = s
 hops n (suc m) s = hop n m (hops n m s)
 
@@ -49,34 +49,24 @@ hops n (suc m) s = hop n m (hops n m s)
 unfoldable pub steppedOf : (fits : Bool) (line out : List ℕ) → Stepped
 steppedOf fits line out = cond fits (cond (leb (length line) (length out)) Handed Room) Twin
 
--- what a call leaves: a line at the front of the output and the memory changed, or both as they were
-unfoldable pub outLeft : (fits : Bool) (line out after : List ℕ) → List ℕ
-outLeft fits line out after = cond fits (cond (leb (length line) (length out)) (atFront after out) out) out
-
-unfoldable pub memoryAfter : (fits : Bool) (line out memory after : List ℕ) → List ℕ
-memoryAfter fits line out memory after = cond fits (cond (leb (length line) (length out)) after memory) memory
-
--- a chain, its memory, and devices stepped: what a call says and leaves
-pub record Done (fits : Bool) (before after : Standing) (out outAfter memoryLeft : List ℕ) (r : Stepped) : Type 0 where
-  pub says : r ≡ steppedOf fits (before .line) out
-  pub leaves : outAfter ≡ outLeft fits (before .line) out (after .line)
-  pub remembers : memoryLeft ≡ memoryAfter fits (before .line) out (before .memory) (after .memory)
-
-abbrev pub standing : (memory line : List ℕ) → Standing
-standing memory line = record { memory = memory; line = line }
-
--- `step`: one device alone, which must be in the chain
-abbrev pub StepDone : (n k : ℕ) (memory memoryLeft line out outAfter : List ℕ) (r : Stepped) → Type 0
-StepDone n k memory memoryLeft line out outAfter r =
-    Done (isChain n (length memory) && ltb k n) (standing memory line) (hop n k (standing memory line)) out outAfter memoryLeft r
-
--- `run_chain`: every device once
-abbrev pub ChainDone : (n : ℕ) (memory memoryLeft line out outAfter : List ℕ) (r : Stepped) → Type 0
-ChainDone n memory memoryLeft line out outAfter r =
-    Done (isChain n (length memory)) (standing memory line) (hops n n (standing memory line)) out outAfter memoryLeft r
-
--- document 01's number of an answer
+-- document 01's number of an answer: 0 where the line was handed on, 15 TWIN, 2 ROOM
 abbrev pub steppedNumber : Stepped → ℕ
 steppedNumber Handed = 0
 steppedNumber Twin = 15
 steppedNumber Room = 2
+
+-- a chain, its memory, and devices stepped: what a call says and leaves
+pub record Done (fits : Bool) (before after : Chain) (out outAfter memoryLeft : List ℕ) (r : Stepped) : Type 0 where
+  pub says : r ≡ steppedOf fits (before .line) out
+  pub leaves : outAfter ≡ leftBy (steppedNumber (steppedOf fits (before .line) out)) (atFront (after .line) out) out
+  pub remembers : memoryLeft ≡ leftBy (steppedNumber (steppedOf fits (before .line) out)) (after .memory) (before .memory)
+
+-- `step`: one device alone, which must be in the chain
+abbrev pub StepDone : (n k : ℕ) (memory memoryLeft line out outAfter : List ℕ) (r : Stepped) → Type 0
+StepDone n k memory memoryLeft line out outAfter r =
+    Done (isChain n (length memory) && ltb k n) (chainWith memory line) (hop n k (chainWith memory line)) out outAfter memoryLeft r
+
+-- `run_chain`: every device once
+abbrev pub ChainDone : (n : ℕ) (memory memoryLeft line out outAfter : List ℕ) (r : Stepped) → Type 0
+ChainDone n memory memoryLeft line out outAfter r =
+    Done (isChain n (length memory)) (chainWith memory line) (hops n n (chainWith memory line)) out outAfter memoryLeft r

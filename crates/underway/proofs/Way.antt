@@ -9,11 +9,13 @@ use native.Mathlib.Omega.{arith}
 use lib.Dec.{eqb}
 use lib.ListN.{length, length-append}
 use Rattle.ground.proofs.Test.{below-or-not}
+use Rattle.questions.specs.Question.{goodQuestion}
 use Rattle.questions.specs.Shape.{shapeOf}
 use Rattle.questions.specs.Bytes.{lowHigh, aliveByte, sealed, fillPairs, writeCovered}
 use Rattle.questions.specs.declared.question.Question.{Question}
 use Rattle.questions.proofs.ByKind.{of-hello, of-write, of-read}
 use Rattle.questions.proofs.Bytes.{sealed-size, length-pairs}
+use Rattle.questions.proofs.Good.{good-values}
 use Rattle.underway.specs.OnTheWay.{onTheWay}
 
 -- the covered bytes of a read on its way
@@ -71,4 +73,17 @@ module _ (q : Question) where
       (eq-zero-or-pos (q .kind)))
       (λ lo. let less = room lo in
       omega (arith, ap length (way-read q count′ added′ more lo), ap length (way-read q count added wire lo), read-size added′ more, read-size added wire, alive-length added added′))
+      (below-or-not (q .kind) 3)
+
+  -- a good question's command has 69 bytes at most, on its way too
+  pub way-most : goodQuestion q ≡ true → (count added m : ℕ) (wire : List ℕ) → length wire ≡ 2 * m → (3 ≤ q .kind → m ≤ shapeOf q .values)
+      → length (onTheWay q count added wire) ≤ 69
+  way-most good count added m wire size room =
+      ⊎-elim
+      (λ (low : q .kind < 3). ⊎-elim
+      (λ e. omega (arith, ap length (way-hello q count added wire e)))
+      (λ lo. omega (arith, ap length (way-write q count added wire lo (omega arith)), sealed-most added (writeCovered q)))
+      (eq-zero-or-pos (q .kind)))
+      (λ lo. let less = room lo in
+      omega (arith, ap length (way-read q count added wire lo), read-size added wire, alive-most added, good-values q good))
       (below-or-not (q .kind) 3)

@@ -58,11 +58,11 @@ fn two_bytes(words: &[u16]) {
 
 fn two_pecs(words: &[u16]) {
     let mut three: [u8; 3] = [0; 3];
-    read_bytes(words, 0, &mut three);
+    read_bytes(words, &mut three);
     text(b", PEC of bytes 0 to 2 ");
     byte(pec::pec(&three));
     let mut five: [u8; 5] = [0; 5];
-    read_bytes(words, 0, &mut five);
+    read_bytes(words, &mut five);
     text(b", of bytes 0 to 4 ");
     byte(pec::pec(&five));
     text(b"\n");

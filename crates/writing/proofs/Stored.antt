@@ -1,10 +1,11 @@
 -- A line stored word by word, byte after byte, is the line at the front of the lent words.
 use mathlib.Core.Path.{_≡_, refl, sym, ap, ap₂, _∙_}
-use mathlib.Core.Bool.{Bool, cond}
+use mathlib.Core.Bool.{Bool, true, false, cond}
 use mathlib.Core.List.{List, [], _∷_, _++_}
 use Prim.Native.Nat.{ℕ, suc, _+_, _*_, _/_, _%_, _≤_, _<_}
 use native.Mathlib.Numerals.{add-one}
 use native.Mathlib.Omega.{arith}
+use lib.Dec.{leb}
 use lib.ListN.{length, getD, take, set}
 use lib.Seq.{sets, take-suc, length-take-le}
 use borrow.Author.Tests.{le-leb, lt-leb}
@@ -12,8 +13,9 @@ use Rattle.ground.proofs.Lists.{sets-append, sets-front}
 use Rattle.characters.specs.Character.{preamble, stop}
 use Rattle.characters.specs.Nibble.{nibbleWord}
 use Rattle.lines.specs.Line.{charactersOf, lineOf}
-use Rattle.lines.specs.Write.{atFront}
-use Rattle.writing.specs.PutLine.{putOf, outOf, LinePut, withByte}
+use Rattle.lines.specs.Write.{atFront, leftBy}
+use Rattle.writing.specs.PutLine.{putOf, putNumber, outOf, LinePut, withByte}
+use Rattle.writing.specs.declared.Put.{Put}
 use Rattle.writing.specs.declared.Put.the-variants.{Words, NoRoom}
 use Rattle.lines.proofs.Line.{length-characters, length-line}
 
@@ -52,23 +54,32 @@ stored-all bytes out h =
     ∙ sym (sets-append (set out 0 preamble) 1 (charactersOf bytes) (stop ∷ []))
     ∙ sets-front (lineOf bytes) out room
 
-pub refused : (bytes out : List ℕ) → length out < 2 * length bytes + 2 → LinePut bytes out out NoRoom
-unfolding putOf outOf
-refused bytes out h =
-    let less : length out < length (lineOf bytes) = omega (arith, length-line bytes) in
-    let short = lt-leb (length (lineOf bytes)) (length out) less in
-    record {
-      says = sym (ap (λ (t : Bool). cond t (Words (length (lineOf bytes))) NoRoom) short);
-      leaves = sym (ap (λ (t : Bool). cond t (atFront (lineOf bytes) out) out) short);
-    }
+-- ---- the two answers
 
-pub written : (bytes out after : List ℕ) (n : ℕ) → 2 * length bytes + 2 ≤ length out → n ≡ 2 * length bytes + 2
-    → after ≡ atFront (lineOf bytes) out → LinePut bytes out after (Words n)
-unfolding putOf outOf
-written bytes out after n h e s =
-    let enough : length (lineOf bytes) ≤ length out = omega (arith, length-line bytes) in
-    let room = le-leb (length (lineOf bytes)) (length out) enough in
-    record {
-      says = ap Words (e ∙ sym (length-line bytes)) ∙ sym (ap (λ (t : Bool). cond t (Words (length (lineOf bytes))) NoRoom) room);
-      leaves = s ∙ sym (ap (λ (t : Bool). cond t (atFront (lineOf bytes) out) out) room);
-    }
+module _ (bytes out : List ℕ) where
+  says-by : (t : Bool) → leb (length (lineOf bytes)) (length out) ≡ t → putOf bytes out ≡ cond t (Words (length (lineOf bytes))) NoRoom
+  unfolding putOf
+  says-by t e = ap (λ (t : Bool). cond t (Words (length (lineOf bytes))) NoRoom) e
+
+  leaves-by : (p : Put) → putOf bytes out ≡ p → outOf bytes out ≡ leftBy (putNumber p) (atFront (lineOf bytes) out) out
+  unfolding outOf
+  leaves-by p is = ap (λ (p : Put). leftBy (putNumber p) (atFront (lineOf bytes) out) out) is
+
+  pub refused : length out < 2 * length bytes + 2 → LinePut bytes out out NoRoom
+  refused h =
+      let less : length out < length (lineOf bytes) = omega (arith, length-line bytes) in
+      let is : putOf bytes out ≡ NoRoom = says-by false (lt-leb (length (lineOf bytes)) (length out) less) in
+      record { says = sym is; leaves = sym (leaves-by NoRoom is) }
+
+  -- where there is room
+  fits : length (lineOf bytes) ≤ length out → putOf bytes out ≡ Words (length (lineOf bytes))
+  fits room = says-by true (le-leb (length (lineOf bytes)) (length out) room)
+
+  pub put-whole : length (lineOf bytes) ≤ length out → outOf bytes out ≡ atFront (lineOf bytes) out
+  put-whole room = leaves-by (Words (length (lineOf bytes))) (fits room)
+
+  pub written : (after : List ℕ) (n : ℕ) → 2 * length bytes + 2 ≤ length out → n ≡ 2 * length bytes + 2
+      → after ≡ atFront (lineOf bytes) out → LinePut bytes out after (Words n)
+  written after n h e s =
+      let room : length (lineOf bytes) ≤ length out = omega (arith, length-line bytes) in
+      record { says = ap Words (e ∙ sym (length-line bytes)) ∙ sym (fits room); leaves = s ∙ sym (put-whole room) }

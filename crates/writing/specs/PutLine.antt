@@ -7,7 +7,7 @@ use lib.Dec.{leb}
 use lib.ListN.{length, set}
 use Rattle.characters.specs.Nibble.{nibbleWord}
 use Rattle.lines.specs.Line.{lineOf}
-use Rattle.lines.specs.Write.{atFront}
+use Rattle.lines.specs.Write.{atFront, leftBy}
 use Rattle.writing.specs.declared.Put.{Put}
 use Rattle.writing.specs.declared.Put.the-variants.{Words, NoRoom}
 
@@ -15,9 +15,14 @@ use Rattle.writing.specs.declared.Put.the-variants.{Words, NoRoom}
 unfoldable pub putOf : (bytes out : List ℕ) → Put
 putOf bytes out = cond (leb (length (lineOf bytes)) (length out)) (Words (length (lineOf bytes))) NoRoom
 
+-- document 01's number for each answer: 0 where the line was put, 2 ROOM
+abbrev pub putNumber : Put → ℕ
+putNumber (Words n) = 0
+putNumber NoRoom = 2
+
 -- the lent words after the call
 unfoldable pub outOf : (bytes out : List ℕ) → List ℕ
-outOf bytes out = cond (leb (length (lineOf bytes)) (length out)) (atFront (lineOf bytes) out) out
+outOf bytes out = leftBy (putNumber (putOf bytes out)) (atFront (lineOf bytes) out) out
 
 -- what `put_line` says and leaves
 pub record LinePut (bytes before after : List ℕ) (r : Put) : Type 0 where

@@ -2,6 +2,7 @@
 use mathlib.Core.Path.{sym, ap, subst}
 use Prim.Native.Nat.{_≤_}
 use native.Mathlib.Omega.{arith}
+use Rattle.certificate.specs.Certificate.{mostText}
 use Rattle.certificate.specs.declared.Certified.{Certified}
 use Rattle.bmc.specs.Exports.{bytesWritten, packedCertified}
 use borrow.Author.Needs.{needs}
@@ -12,10 +13,10 @@ enum-known-certified : tie.Need-enum-known-certified
 enum-known-certified c = search needs
 
 cast-result : tie.Need-cast-result
-cast-result c = omega (arith, subst (λ (x : Certified). bytesWritten x ≤ 82143) (c .before .certified .given .1) (c .before .before .before .pre))
+cast-result c = omega (arith, subst (λ (x : Certified). bytesWritten x ≤ mostText) (c .before .certified .given .1) (c .before .before .before .pre))
 
 mul-result : tie.Need-mul-result
-mul-result c = omega (arith, subst (λ (x : Certified). bytesWritten x ≤ 82143) (c .before .certified .given .1) (c .before .before .before .pre))
+mul-result c = omega (arith, subst (λ (x : Certified). bytesWritten x ≤ mostText) (c .before .certified .given .1) (c .before .before .before .pre))
 
 enum-told : tie.Need-enum-told
 enum-told c = search needs

@@ -37,19 +37,13 @@ head-of-requires c κs = search needs
 
 array-share-prefix-bytes : tie.Need-array-share-prefix-bytes
 array-share-prefix-bytes c =
-    let a = c .before .before .before .before .before .before .before .args in
-    let asked = c .before .before .before .before .before .is-good in
-    let good : goodQuestion (a .q) ≡ true = sym (asked .ensures) ∙ not-false (asked .result) (c .before .before .before .before .if1 .left) in
     let head = c .before .head-of in
-    head-within (a .q) good (head .result) (head .ensures)
+    head-within (c .before .before .before .before .before .before .before .args .q) (head .result) (head .ensures)
 
 slice-aggregate-lay-line : tie.Need-slice-aggregate-lay-line
 slice-aggregate-lay-line c =
-    let a = c .before .before .before .before .before .before .before .before .args in
-    let asked = c .before .before .before .before .before .before .is-good in
-    let good : goodQuestion (a .q) ≡ true = sym (asked .ensures) ∙ not-false (asked .result) (c .before .before .before .before .before .if1 .left) in
     let head = c .before .before .head-of in
-    sym (head-length (a .q) good (head .result) (head .ensures))
+    sym (head-length (c .before .before .before .before .before .before .before .before .args .q) (head .result) (head .ensures))
 
 lay-line-requires : tie.Need-lay-line-requires
 lay-line-requires c κs =
@@ -59,7 +53,7 @@ lay-line-requires c κs =
     let small : a .q .seed < 256 = omega (arith, c .before .before .before .before .before .before .before .before .before .good .0) in
     let head = c .before .before .before .head-of in
     let shape = c .before .before .before .before .before .shape-of in (
-      head-short (a .q) good (head .result) (head .ensures),
+      head-short (a .q) (head .result) (head .ensures),
       omega (arith, ap (λ (s : Shape). s .values) (shape .ensures), good-values (a .q) good),
       room-for (a .q) (a .out .now) good (shape .result) (shape .ensures) small (head .result) (head .ensures) (c .before .before .before .before .if2 .left),
     )

@@ -1,7 +1,7 @@
--- `read_head` meets its contract: the check is the PEC of the three bytes before it.
-use mathlib.Core.Path.{ap}
+-- `read_head` meets its contract: the check is the PEC of the three bytes before it, and the alive byte is counted where it is on.
+use mathlib.Core.Path.{ap₂}
 use mathlib.Core.List.{[], _∷_}
-use Prim.Native.Nat.{ℕ, _+_}
+use Prim.Native.Nat.{ℕ}
 use Rattle.pec.proofs.Byte.{three-steps}
 use borrow.Author.Needs.{needs}
 use Rattle.commands.proofs.read_head.Statement.{statement}
@@ -16,18 +16,16 @@ step-requires-2 c κs = search needs
 step-requires-3 : tie.Need-step-requires-3
 step-requires-3 c κs = search needs
 
-cast-t9 : tie.Need-cast-t9
-cast-t9 c = search needs
-
-add-t10 : tie.Need-add-t10
-add-t10 c = search needs
+with-alive-requires : tie.Need-with-alive-requires
+with-alive-requires c κs = search needs
 
 returns : tie.Need-returns
 returns c =
     let a = c .before .before .before .before .args in
-    ap (λ (check : ℕ). record { bytes = a .first ∷ a .q .reg ∷ 0 ∷ check ∷ a .q .seed ∷ 0 ∷ []; count = 4 + a .q .alive })
+    ap₂ (λ (check count : ℕ). record { bytes = a .first ∷ a .q .reg ∷ 0 ∷ check ∷ a .q .seed ∷ 0 ∷ []; count = count })
     (three-steps (a .first) (a .q .reg) 0 (c .before .before .before .step .ensures) (c .before .before .step2 .ensures) (c .before .step3 .ensures))
+    (c .with-alive .ensures)
 
 pub read-head-spec : {M : Type 1} → statement M
 read-head-spec =
-    tie.close (tie.spec step-requires step-requires-2 step-requires-3 cast-t9 add-t10 returns)
+    tie.close (tie.spec step-requires step-requires-2 step-requires-3 with-alive-requires returns)

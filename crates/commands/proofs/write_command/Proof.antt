@@ -31,19 +31,13 @@ shape-of-requires c κs = search needs
 
 array-share-prefix-bytes : tie.Need-array-share-prefix-bytes
 array-share-prefix-bytes c =
-    let a = c .before .before .before .before .before .before .args in
-    let asked = c .before .before .before .before .is-good in
-    let good : goodQuestion (a .q) ≡ true = sym (asked .ensures) ∙ not-false (asked .result) (c .before .before .before .if1 .left) in
     let head = c .before .before .head-of in
-    head-within (a .q) good (head .result) (head .ensures)
+    head-within (c .before .before .before .before .before .before .args .q) (head .result) (head .ensures)
 
 slice-aggregate-put-filled : tie.Need-slice-aggregate-put-filled
 slice-aggregate-put-filled c =
-    let a = c .before .before .before .before .before .before .before .args in
-    let asked = c .before .before .before .before .before .is-good in
-    let good : goodQuestion (a .q) ≡ true = sym (asked .ensures) ∙ not-false (asked .result) (c .before .before .before .before .if1 .left) in
     let head = c .before .before .before .head-of in
-    sym (head-length (a .q) good (head .result) (head .ensures))
+    sym (head-length (c .before .before .before .before .before .before .before .args .q) (head .result) (head .ensures))
 
 put-filled-requires : tie.Need-put-filled-requires
 put-filled-requires c κs =
@@ -52,7 +46,7 @@ put-filled-requires c κs =
     let good : goodQuestion (a .q) ≡ true = sym (asked .ensures) ∙ not-false (asked .result) (c .before .before .before .before .before .if1 .left) in
     let head = c .before .before .before .before .head-of in
     let shape = c .before .before .shape-of in
-    (head-short (a .q) good (head .result) (head .ensures), omega (arith, ap (λ (s : Shape). s .values) (shape .ensures), good-values (a .q) good))
+    (head-short (a .q) (head .result) (head .ensures), omega (arith, ap (λ (s : Shape). s .values) (shape .ensures), good-values (a .q) good))
 
 as-issued-requires : tie.Need-as-issued-requires
 as-issued-requires c κs = search needs
@@ -69,7 +63,7 @@ returns-2 c =
     let head = c .before .before .before .before .before .before .before .before .head-of in
     let shape = c .before .before .before .before .before .before .shape-of in
     let done = c .before .before .before .put-filled in
-    command-put (a .q) (a .out .now) (done .last .1 .1 .0) (done .result) (c .as-issued .result) good
+    command-put (a .q) (a .out .now) good (done .last .1 .1 .0) (done .result) (c .as-issued .result)
     (subst (λ (bytes : List ℕ). LinePut bytes (a .out .now) (done .last .1 .1 .0) (done .result))
     (head-taken (a .q) good small (head .result) (shape .result) (head .ensures) (shape .ensures)) (done .ensures))
     (c .as-issued .ensures)

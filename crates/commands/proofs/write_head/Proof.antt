@@ -1,7 +1,7 @@
--- `write_head` meets its contract: the check is the PEC of the four bytes before it.
-use mathlib.Core.Path.{ap}
+-- `write_head` meets its contract: the check is the PEC of the four bytes before it, and the alive byte is counted where it is on.
+use mathlib.Core.Path.{ap₂}
 use mathlib.Core.List.{[], _∷_}
-use Prim.Native.Nat.{ℕ, _+_, _/_, _%_}
+use Prim.Native.Nat.{ℕ, _/_, _%_}
 use Rattle.pec.proofs.Byte.{four-steps}
 use borrow.Author.Needs.{needs}
 use Rattle.commands.proofs.write_head.Statement.{statement}
@@ -25,20 +25,18 @@ step-requires-3 c κs = search needs
 step-requires-4 : tie.Need-step-requires-4
 step-requires-4 c κs = search needs
 
-cast-t13 : tie.Need-cast-t13
-cast-t13 c = search needs
-
-add-t14 : tie.Need-add-t14
-add-t14 c = search needs
+with-alive-requires : tie.Need-with-alive-requires
+with-alive-requires c κs = search needs
 
 returns : tie.Need-returns
 returns c =
     let a = c .before .before .before .before .before .before .before .args in
     let low = a .q .value % 256 in
     let high = a .q .value / 256 in
-    ap (λ (check : ℕ). record { bytes = a .first ∷ a .q .reg ∷ low ∷ high ∷ check ∷ a .q .seed ∷ []; count = 5 + a .q .alive })
+    ap₂ (λ (check count : ℕ). record { bytes = a .first ∷ a .q .reg ∷ low ∷ high ∷ check ∷ a .q .seed ∷ []; count = count })
     (four-steps (a .first) (a .q .reg) low high (c .before .before .before .before .step .ensures) (c .before .before .before .step2 .ensures)
     (c .before .before .step3 .ensures) (c .before .step4 .ensures))
+    (c .with-alive .ensures)
 
 pub write-head-spec : {M : Type 1} → statement M
 write-head-spec =
@@ -50,6 +48,5 @@ write-head-spec =
     step-requires-2
     step-requires-3
     step-requires-4
-    cast-t13
-    add-t14
+    with-alive-requires
     returns)

@@ -20,8 +20,8 @@ returns-2 c =
     let a = c .before .before .before .before .before .args in
     no-alive (a .q) (a .bytes .now) (positive (a .q .kind) (c .before .before .if1 .left)) (c .if2 .taken)
 
-add-byte-in : tie.Need-add-byte-in
-add-byte-in c =
+add-byte-or-zero : tie.Need-add-byte-or-zero
+add-byte-or-zero c =
     omega (
       arith,
       c .before .before .before .before .before .pre .0,
@@ -29,8 +29,8 @@ add-byte-in c =
       c .before .before .before .before .before .good .0,
     )
 
-byte-in-requires : tie.Need-byte-in-requires
-byte-in-requires c κs = search needs
+byte-or-zero-requires : tie.Need-byte-or-zero-requires
+byte-or-zero-requires c κs = search needs
 
 wrapping-add-u8-requires : tie.Need-wrapping-add-u8-requires
 wrapping-add-u8-requires c κs = search needs
@@ -39,7 +39,7 @@ returns-3 : tie.Need-returns-3
 returns-3 c =
     let a = c .before .before .before .before .before .before .before .args in
     let l = a .bytes .now in
-    ap₂ eqb (c .before .byte-in .ensures) (c .wrapping-add-u8 .ensures)
+    ap₂ eqb (c .before .byte-or-zero .ensures) (c .wrapping-add-u8 .ensures)
     ∙ ap₂ (λ (k acting : ℕ). eqb (byteIn l (k + 1)) ((a .q .seed + acting) % 256)) (c .before .before .before .before .before .before .before .pre .0) (c .before .before .before .before .before .before .before .pre .1)
     ∙ some-alive (a .q) l (positive (a .q .kind) (c .before .before .before .before .if1 .left)) (c .before .before .if2 .left)
 
@@ -49,7 +49,7 @@ alive-is-right-spec =
     (tie.spec
     returns
     returns-2
-    add-byte-in
-    byte-in-requires
+    add-byte-or-zero
+    byte-or-zero-requires
     wrapping-add-u8-requires
     returns-3)

@@ -15,8 +15,8 @@ returns c =
     let a = c .before .before .before .args in
     hello-pec (a .q) (a .bytes .now) (c .if1 .taken)
 
-byte-in-requires : tie.Need-byte-in-requires
-byte-in-requires c κs = search needs
+byte-or-zero-requires : tie.Need-byte-or-zero-requires
+byte-or-zero-requires c κs = search needs
 
 pec-before-requires : tie.Need-pec-before-requires
 pec-before-requires c κs = search needs
@@ -25,10 +25,10 @@ returns-2 : tie.Need-returns-2
 returns-2 c =
     let a = c .before .before .before .before .before .args in
     let l = a .bytes .now in
-    ap₂ eqb (c .before .byte-in .ensures) (c .pec-before .ensures)
+    ap₂ eqb (c .before .byte-or-zero .ensures) (c .pec-before .ensures)
     ∙ ap (λ (k : ℕ). eqb (byteIn l k) (pecOf (take k l))) (c .before .before .before .before .before .pre)
     ∙ other-pec (a .q) l (positive (a .q .kind) (c .before .before .if1 .left))
 
 pub pec-is-right-spec : {M : Type 1} → statement M
 pec-is-right-spec =
-    tie.close (tie.spec returns byte-in-requires pec-before-requires returns-2)
+    tie.close (tie.spec returns byte-or-zero-requires pec-before-requires returns-2)

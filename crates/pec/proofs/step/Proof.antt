@@ -1,26 +1,25 @@
 -- `step` meets its contract: its shifts make of each of the 256 states what eight bits do.
 use mathlib.Core.Path.{refl}
-use native.Mathlib.Omega.{arith}
-use lib.Bits.{xor-lt}
 use Rattle.remainder.specs.Register.{times}
 use Rattle.pec.specs.Pec.{bitStep}
-use Rattle.pec.proofs.Byte.{eightBits, shifts, by-shifts, down-lt}
+use Rattle.pec.proofs.Byte.{eightBits, shifts, by-shifts, folded-fits, up-fits, down-lt}
+use mir.Syntax.{w32}
 use borrow.Author.Needs.{needs}
 use Rattle.pec.proofs.step.Statement.{statement}
 use Rattle.pec.proofs.step.Tie as tie
 
--- the byte folded into the state is a byte
+-- what is folded together is a byte, and fits moved up as well
 cast-x : tie.Need-cast-x
-cast-x c = omega (arith, xor-lt 8 (c .args .crc) (c .args .byte) (c .fits .crc .fits) (c .fits .byte .fits))
+cast-x c = search (needs, folded-fits w32)
 
 mul-q : tie.Need-mul-q
-mul-q c = omega (arith, xor-lt 8 (c .args .crc) (c .args .byte) (c .fits .crc .fits) (c .fits .byte .fits))
+mul-q c = search (needs, up-fits)
 
 mul-q-2 : tie.Need-mul-q-2
-mul-q-2 c = omega (arith, xor-lt 8 (c .args .crc) (c .args .byte) (c .fits .crc .fits) (c .fits .byte .fits))
+mul-q-2 c = search (needs, up-fits)
 
 mul-q-3 : tie.Need-mul-q-3
-mul-q-3 c = omega (arith, xor-lt 8 (c .args .crc) (c .args .byte) (c .fits .crc .fits) (c .fits .byte .fits))
+mul-q-3 c = search (needs, up-fits)
 
 cast-result : tie.Need-cast-result
 cast-result c = search (needs, down-lt)

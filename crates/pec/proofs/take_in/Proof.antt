@@ -2,18 +2,19 @@
 use mathlib.Core.Path.{ap, _∙_}
 use mathlib.Core.List.{List}
 use Prim.Native.Nat.{ℕ}
-use native.Mathlib.Omega.{arith}
+use mir.Syntax.{w64}
 use lib.Bits.{bitXor, xor-lt}
 use lib.ListN.{getD}
-use Rattle.pec.proofs.Byte.{by-table}
+use Rattle.pec.proofs.Byte.{folded-fits, by-table}
+use borrow.Author.Needs.{needs}
 use Rattle.pec.proofs.take_in.Statement.{statement}
 use Rattle.pec.proofs.take_in.Tie as tie
 
 cast-result : tie.Need-cast-result
-cast-result c = omega (arith, xor-lt 8 (c .args .crc) (c .args .byte) (c .fits .crc .fits) (c .fits .byte .fits))
+cast-result c = search (needs, folded-fits w64)
 
 element-copy-out-result : tie.Need-element-copy-out-result
-element-copy-out-result c = xor-lt 8 (c .args .crc) (c .args .byte) (c .fits .crc .fits) (c .fits .byte .fits)
+element-copy-out-result c = search (needs, xor-lt 8)
 
 returns : tie.Need-returns
 returns c =

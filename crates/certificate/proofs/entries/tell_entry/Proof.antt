@@ -6,7 +6,7 @@ use native.Mathlib.Omega.{arith}
 use lib.ListN.{take, drop, set}
 use Rattle.packing.specs.Words.{wordsOf}
 use Rattle.jobs.specs.declared.EntryAt.{EntryAt}
-use Rattle.certificate.specs.declared.Heard.{Heard}
+use Rattle.certificate.specs.declared.AfterEntry.{AfterEntry}
 use Rattle.certificate.specs.Certificate.{heardAs}
 use Rattle.certificate.specs.Telling.{heardNow, heardHere}
 use Rattle.jobs.proofs.Placed.{no-other, placed, entry-words, entry-within, words-there}
@@ -57,8 +57,8 @@ returns-2 c =
     record {
       at = is .after;
       entries = refl;
-      standing = ap (λ (x : Heard). x .standing) heard;
-      numbers = ap (λ (x : Heard). set (a .numbers .now) (a .told .entries) (x .number)) heard;
+      standing = ap (λ (x : AfterEntry). x .standing) heard;
+      numbers = ap (λ (x : AfterEntry). set (a .numbers .now) (a .told .entries) (x .number)) heard;
     }
 
 pub tell-entry-spec : {M : Type 1} → statement M

@@ -18,41 +18,41 @@ returns c =
     let high : length l ≤ 2 + 2 * a .i = omega arith in
     sym (ap₂ (λ (x y : ℕ). trueBits x + 16 * trueBits y) (List·getD-eq-default l 0 low) (List·getD-eq-default l 0 high))
 
-mul-word-at : tie.Need-mul-word-at
-mul-word-at c = search needs
+mul-word-or-zero : tie.Need-mul-word-or-zero
+mul-word-or-zero c = search needs
 
-add-word-at : tie.Need-add-word-at
-add-word-at c = search needs
+add-word-or-zero : tie.Need-add-word-or-zero
+add-word-or-zero c = search needs
 
-word-at-requires : tie.Need-word-at-requires
-word-at-requires c κs = search needs
+word-or-zero-requires : tie.Need-word-or-zero-requires
+word-or-zero-requires c κs = search needs
 
-mul-word-at-2 : tie.Need-mul-word-at-2
-mul-word-at-2 c = search needs
+mul-word-or-zero-2 : tie.Need-mul-word-or-zero-2
+mul-word-or-zero-2 c = search needs
 
-add-word-at-2 : tie.Need-add-word-at-2
-add-word-at-2 c = search needs
+add-word-or-zero-2 : tie.Need-add-word-or-zero-2
+add-word-or-zero-2 c = search needs
 
-word-at-requires-2 : tie.Need-word-at-requires-2
-word-at-requires-2 c κs = search needs
+word-or-zero-requires-2 : tie.Need-word-or-zero-requires-2
+word-or-zero-requires-2 c κs = search needs
 
 two-nibbles-requires : tie.Need-two-nibbles-requires
 two-nibbles-requires c κs = search needs
 
 returns-2 : tie.Need-returns-2
 unfolding byteAt
-returns-2 c = c .two-nibbles .ensures ∙ ap₂ (λ (x y : ℕ). trueBits x + 16 * trueBits y) (c .before .before .word-at .ensures) (c .before .word-at2 .ensures)
+returns-2 c = c .two-nibbles .ensures ∙ ap₂ (λ (x y : ℕ). trueBits x + 16 * trueBits y) (c .before .before .word-or-zero .ensures) (c .before .word-or-zero2 .ensures)
 
 pub byte-at-spec : {M : Type 1} → statement M
 byte-at-spec =
     tie.close
     (tie.spec
     returns
-    mul-word-at
-    add-word-at
-    word-at-requires
-    mul-word-at-2
-    add-word-at-2
-    word-at-requires-2
+    mul-word-or-zero
+    add-word-or-zero
+    word-or-zero-requires
+    mul-word-or-zero-2
+    add-word-or-zero-2
+    word-or-zero-requires-2
     two-nibbles-requires
     returns-2)

@@ -7,11 +7,12 @@ use lib.ListN.{length, take, drop, length-append}
 use lib.Seq.{length-take-le, take-at}
 use Rattle.lines.specs.Line.{byteCount}
 use Rattle.lines.specs.Write.{atFront}
+use Rattle.lines.proofs.Line.{all-read}
 use Rattle.readings.specs.Reading.{valuesTaken}
 use Rattle.contents.specs.InOrder.{judgeBytes}
 use Rattle.judging.proofs.Screening.{passed-is-judged}
 use Rattle.reader.specs.Read.{valuesIn, Carried}
-use Rattle.reader.proofs.Passed.{whole-line, some-words, few-bytes, carried, same-values}
+use Rattle.reader.proofs.Passed.{some-words, few-bytes, carried, same-values}
 use borrow.Author.Needs.{needs}
 use Rattle.reader.proofs.read.read_passed.Statement.{statement}
 use Rattle.reader.proofs.read.read_passed.Tie as tie
@@ -44,7 +45,7 @@ array-share-prefix-bytes c =
     let blank = c .before .before .before .blank-bytes .result in
     let count = byteCount (a .line .now) in
     let few = few-bytes (a .q) (a .line .now) (length (a .out .now)) (c .before .before .before .before .before .before .pre) in
-    omega (arith, length-append (c .before .read-bytes .last .1 .1 .0) (drop count blank), c .before .read-bytes .kept .1 .1 .0, length-take-le count blank (omega (arith, c .before .before .before .blank-bytes .ensures, few)))
+    omega (arith, length-append (c .before .read-bytes .last .1 .0) (drop count blank), c .before .read-bytes .kept .1 .0, length-take-le count blank (omega (arith, c .before .before .before .blank-bytes .ensures, few)))
 
 slice-aggregate-read-off : tie.Need-slice-aggregate-read-off
 slice-aggregate-read-off c =
@@ -52,8 +53,8 @@ slice-aggregate-read-off c =
     let blank = c .before .before .before .before .blank-bytes .result in
     let count = byteCount (a .line .now) in
     let few = few-bytes (a .q) (a .line .now) (length (a .out .now)) (c .before .before .before .before .before .before .before .pre) in
-    let part = c .before .before .read-bytes .last .1 .1 .0 in
-    let size : length part ≡ count = c .before .before .read-bytes .kept .1 .1 .0 ∙ length-take-le count blank (omega (arith, c .before .before .before .before .blank-bytes .ensures, few)) in
+    let part = c .before .before .read-bytes .last .1 .0 in
+    let size : length part ≡ count = c .before .before .read-bytes .kept .1 .0 ∙ length-take-le count blank (omega (arith, c .before .before .before .before .blank-bytes .ensures, few)) in
     sym (ap length (take-at part (drop count blank) count size) ∙ size)
 
 read-off-requires : tie.Need-read-off-requires
@@ -64,9 +65,9 @@ read-off-requires c κs =
     let count = byteCount line in
     let room = length (a .out .now) in
     let passed = c .before .before .before .before .before .before .before .before .pre in
-    let part = c .before .before .before .read-bytes .last .1 .1 .0 in
+    let part = c .before .before .before .read-bytes .last .1 .0 in
     let size = length-take-le count blank (omega (arith, c .before .before .before .before .before .blank-bytes .ensures, few-bytes (a .q) line room passed)) in
-    let all = take-at part (drop count blank) count (c .before .before .before .read-bytes .kept .1 .1 .0 ∙ size) ∙ c .before .before .before .read-bytes .ensures ∙ whole-line line (take count blank) size in
+    let all = take-at part (drop count blank) count (c .before .before .before .read-bytes .kept .1 .0 ∙ size) ∙ c .before .before .before .read-bytes .ensures ∙ all-read line (take count blank) size in
     subst (λ (l : List ℕ). Carried l (valuesTaken (judgeBytes (a .q) l)) room) (sym all) (carried (a .q) line room passed)
 
 same-length : tie.Need-same-length
@@ -80,9 +81,9 @@ returns c =
     let count = byteCount line in
     let out = a .out .now in
     let passed = c .before .before .before .before .before .before .before .before .before .before .before .pre in
-    let part = c .before .before .before .before .before .before .read-bytes .last .1 .1 .0 in
+    let part = c .before .before .before .before .before .before .read-bytes .last .1 .0 in
     let size = length-take-le count blank (omega (arith, c .before .before .before .before .before .before .before .before .blank-bytes .ensures, few-bytes (a .q) line (length out) passed)) in
-    let all = take-at part (drop count blank) count (c .before .before .before .before .before .before .read-bytes .kept .1 .1 .0 ∙ size) ∙ c .before .before .before .before .before .before .read-bytes .ensures ∙ whole-line line (take count blank) size in
+    let all = take-at part (drop count blank) count (c .before .before .before .before .before .before .read-bytes .kept .1 .0 ∙ size) ∙ c .before .before .before .before .before .before .read-bytes .ensures ∙ all-read line (take count blank) size in
     let done = c .before .before .read-off .ensures in
     record {
       says = done .says ∙ ap (judgeBytes (a .q)) all ∙ passed-is-judged (a .q) line (length out) passed;

@@ -7,7 +7,7 @@ use Prim.Native.Nat.{ℕ, _-_, _≤_}
 use lib.ListN.{length, drop}
 use lib.Seq.{drop-append-seam}
 use borrow.Author.Tests.{not-true, not-false}
-use Rattle.twin.specs.Step.{standing, hops}
+use Rattle.twin.specs.Step.{chainWith, hops}
 use Rattle.registers.proofs.Power.{chain-words}
 use Rattle.twin.proofs.Stepping.{turned-away, no-room, handed-on, hopped-on, hops-length}
 use Rattle.twin.proofs.step.run_chain.Statement.{statement}
@@ -15,7 +15,7 @@ use Rattle.twin.proofs.step.run_chain.Tie as tie
 
 abbrev Inv-loop : tie.InvT-loop
 Inv-loop n memory₀ line out₀ device₀ memory out device =
-    (device ≤ n) × (memory ≡ hops n device (standing memory₀ line) .memory) × (out ≡ hops n device (standing memory₀ line) .line ++ drop (length line) out₀)
+    (device ≤ n) × (memory ≡ hops n device (chainWith memory₀ line) .memory) × (out ≡ hops n device (chainWith memory₀ line) .line ++ drop (length line) out₀)
     × (length memory ≡ length memory₀) × (length out ≡ length out₀)
 
 abbrev μ-loop : tie.MeasureT-loop
@@ -27,13 +27,13 @@ is-chain-requires c κs = tt
 returns : tie.Need-returns Inv-loop μ-loop
 returns c =
     let a = c .before .before .before .before .before .args in
-    let s = standing (a .memory .now) (a .line .now) in
+    let s = chainWith (a .memory .now) (a .line .now) in
     turned-away _ s (hops (a .n) (a .n) s) (a .out .now) (sym (c .before .is-chain .ensures) ∙ not-true (c .before .is-chain .result) (c .if1 .taken))
 
 returns-2 : tie.Need-returns-2 Inv-loop μ-loop
 returns-2 c =
     let a = c .before .before .before .before .before .before .args in
-    let s = standing (a .memory .now) (a .line .now) in
+    let s = chainWith (a .memory .now) (a .line .now) in
     no-room _ s (hops (a .n) (a .n) s) (a .out .now) (sym (c .before .before .is-chain .ensures) ∙ not-false (c .before .before .is-chain .result) (c .before .if1 .left)) (c .if2 .taken)
 
 copy-requires : tie.Need-copy-requires Inv-loop μ-loop
@@ -66,7 +66,7 @@ loop-again c =
     let a = c .before .before .before .before .before .before .before .before .before .before .before .before .before .before .before .before .before .before .before .args in
     let at = c .before .before .before .before .before .before .before .before .loop in
     let line = a .line .now in
-    let s = standing (a .memory .now) line in
+    let s = chainWith (a .memory .now) line in
     let now-stands = hops (a .n) (at .device) s in
     let rest = drop (length line) (c .before .before .before .before .before .before .before .before .before .before .before .copy .last .1 .0) in
     let hop = c .before .before .before .before .hop in
@@ -91,11 +91,11 @@ returns-3 c =
     let a = c .before .before .before .before .before .before .before .before .before .before .before .before .args in
     let at = c .before .loop in
     let line = a .line .now in
-    let s = standing (a .memory .now) line in
+    let s = chainWith (a .memory .now) line in
     let all : at .device ≡ a .n = omega arith in
     let rest = ap (drop (length line)) (c .before .before .before .before .copy .ensures) ∙ drop-append-seam line (drop (length line) (a .out .now)) in
-    handed-on _ s (hops (a .n) (a .n) s) (a .out .now) (at .out) (at .memory)
-    (sym (c .before .before .before .before .before .before .before .before .is-chain .ensures) ∙ not-false (c .before .before .before .before .before .before .before .before .is-chain .result) (c .before .before .before .before .before .before .before .if1 .left)) (c .before .before .before .before .before .before .if2 .left) (hops-length (a .n) (a .n) s)
+    handed-on _ s (hops (a .n) (a .n) s) (a .out .now)
+    (sym (c .before .before .before .before .before .before .before .before .is-chain .ensures) ∙ not-false (c .before .before .before .before .before .before .before .before .is-chain .result) (c .before .before .before .before .before .before .before .if1 .left)) (c .before .before .before .before .before .before .if2 .left) (at .out) (at .memory) (hops-length (a .n) (a .n) s)
     (at .inv .2 ∙ ap (λ (l : List ℕ). hops (a .n) (at .device) s .line ++ l) rest ∙ ap (λ (k : ℕ). hops (a .n) k s .line ++ drop (length line) (a .out .now)) all)
     (at .inv .1 ∙ ap (λ (k : ℕ). hops (a .n) k s .memory) all)
 

@@ -1,0 +1,131 @@
+-- WHICH NUMBER A JOB FILE GETS (document 01, "Turned away"): FILE exactly where the bytes are the encoding of no header and entries that keep the
+-- rules, of a rehearsal also where the answered file would be too long; then ROOM exactly where what is to be written is longer than the lent
+-- memory; else 0.
+use mathlib.Core.Path.{_≡_, refl, sym, ap, subst, _∙_}
+use mathlib.Core.Bool.{Bool, true, false, cond, false≢true}
+use mathlib.Core.Logic.{_⊎_, inl, inr, ⊎-elim}
+use mathlib.Core.List.{List, [], _∷_}
+use Prim.Native.Nat.{ℕ, _%_, _≤_, _<_}
+use native.Mathlib.Omega.{arith}
+use lib.Dec.{leb}
+use lib.ListN.{length, drop}
+use borrow.Author.Tests.{leb-true, leb-false}
+use Rattle.remainder.specs.Turned.{Bytes}
+use Rattle.jobs.specs.declared.Header.{Header}
+use Rattle.jobs.specs.Format.{Entry}
+use Rattle.jobs.specs.declared.Cursor.{Cursor}
+use Rattle.jobs.specs.declared.Opened.the-variants as opened
+use Rattle.jobs.specs.declared.Next.the-variants as next
+use Rattle.jobs.specs.Check.{headerIn, entriesIn, goodEntry, goodFile, placedIn, openedOf, openedNumber, nextIn, nextOf, nextNumber}
+use Rattle.jobs.specs.Encoded.{Encodes}
+use Rattle.jobs.proofs.GoodFile.{encoded-is-good, good-is-encoded}
+use Rattle.letters.specs.declared.Standing.{Standing}
+use Rattle.printing.specs.Text.{certificateText}
+use Rattle.printing.specs.Print.{mostEntries, printedOf, printedNumber}
+use Rattle.printing.specs.declared.Printed.the-variants as printed
+use Rattle.certificate.specs.Certificate.{certificateOf, certifiedOf, certifiedNumber}
+use Rattle.certificate.specs.declared.Certified.{Certified}
+use Rattle.certificate.specs.declared.Certified.the-variants as certified
+use Rattle.certificate.proofs.Answered.{Answered, no-job, no-room, all, answered}
+use Rattle.rehearsal.specs.Rehearsal.{rehearsalOf, rehearsedOf, rehearsedNumber}
+use Rattle.rehearsal.specs.declared.Rehearsed.the-variants as rehearsed
+use Rattle.bmc.specs.Exports.{packedCertified, CertificateBytesDone}
+use Rattle.promises.specs.ByNumber.{NumberDue}
+use Rattle.promises.specs.CallRows.{NoJobFile, openRows, nextRows, printRows, certifyRows, rehearseRows}
+use Rattle.promises.proofs.CallsByNumber.{enough-room, short-of-room}
+
+-- a test of the bytes, in place of what it says of them
+pub bad-is-no-job : (file : List ℕ) → goodFile file ≡ false → NoJobFile file
+bad-is-no-job file bad h es encoded = false≢true (sym bad ∙ encoded-is-good h es file encoded)
+
+pub good-is-a-job : (file : List ℕ) → Bytes file → goodFile file ≡ true → NoJobFile file → ⊥
+good-is-a-job file small good none = none (headerIn file) (entriesIn (drop 7 file)) (good-is-encoded file small good)
+
+-- ---- a file opened, an entry taken out
+
+pub opened-by-number : (file : List ℕ) → Bytes file → NumberDue (openRows file) (openedNumber (openedOf file))
+unfolding openedOf
+opened-by-number file small = by-test (goodFile file) refl
+  where
+    by-test : (good : Bool) → goodFile file ≡ good → NumberDue (openRows file) (openedNumber (cond good (opened.Job (headerIn file)) opened.File))
+    by-test true good = inr (good-is-a-job file small good, refl)
+    by-test false bad = inl (bad-is-no-job file bad, refl)
+
+pub next-by-number : (h : Header) (file : List ℕ) (c : Cursor) → NumberDue (nextRows h (drop (c .at) file)) (nextNumber (nextOf h file c))
+unfolding nextOf
+next-by-number h file c = by-rest (drop (c .at) file)
+  where
+    by-rest : (rest : List ℕ) → NumberDue (nextRows h rest) (nextNumber (nextIn h (c .at) rest))
+    by-rest [] = inr ((λ some. omega (arith, some .0)), refl)
+    by-rest (b ∷ rest) = by-test (goodEntry h (b ∷ rest)) refl
+      where
+        by-test : (good : Bool) → goodEntry h (b ∷ rest) ≡ good
+            → NumberDue (nextRows h (b ∷ rest)) (nextNumber (cond good (placedIn h (c .at) (b ∷ rest)) next.File))
+        by-test true good = inr ((λ some. false≢true (sym (some .1) ∙ good)), refl)
+        by-test false bad = inl ((omega arith, bad), refl)
+
+-- ---- a text printed
+
+pub printed-by-number : (n : ℕ) (numbers : List ℕ) (s : Standing) (text : List ℕ)
+    → NumberDue (printRows (length numbers) (length text) (length (certificateText n numbers s))) (printedNumber (printedOf n numbers s text))
+unfolding printedOf
+printed-by-number n numbers s text = by-tests (leb (length numbers) mostEntries) refl (leb bytes (length text)) refl
+  where
+    bytes : ℕ
+    bytes = length (certificateText n numbers s)
+
+    by-tests : (few : Bool) → leb (length numbers) mostEntries ≡ few → (fits : Bool) → leb bytes (length text) ≡ fits
+        → NumberDue (printRows (length numbers) (length text) bytes) (printedNumber (cond few (cond fits (printed.Bytes bytes) printed.Room) printed.Many))
+    by-tests false many fits f = inl (leb-false (length numbers) mostEntries many, refl)
+    by-tests true few true fits = inr ((λ many. omega (arith, leb-true (length numbers) mostEntries few)), enough-room (length text) bytes fits)
+    by-tests true few false short = inr ((λ many. omega (arith, leb-true (length numbers) mostEntries few)), short-of-room (length text) bytes short)
+
+-- ---- the certificate
+
+pub certified-by-number : (file before : List ℕ) → Bytes file
+    → NumberDue (certifyRows file (length before)) (certifiedNumber (certifiedOf file before))
+certified-by-number file before small = by-answer (certifiedOf file before) (answered file before)
+  where
+    by-answer : (c : Certified) → Answered file before c → NumberDue (certifyRows file (length before)) (certifiedNumber c)
+    by-answer _ (no-job bad) = inl (bad-is-no-job file bad, refl)
+    by-answer _ (no-room good over) = inr (good-is-a-job file small good, inl (over, refl))
+    by-answer _ (all good room) = inr (good-is-a-job file small good, inr (λ over. omega (arith, room, over), refl))
+
+-- of C's call in the lowest eight bits
+pub packed-number : (file before after : List ℕ) (r : ℕ) → CertificateBytesDone file before after r → r % 256 ≡ certifiedNumber (certifiedOf file before)
+packed-number file before after r done = ap (λ (k : ℕ). k % 256) (done .says) ∙ own-number (certifiedOf file before)
+  where
+    own-number : (c : Certified) → packedCertified c % 256 ≡ certifiedNumber c
+    own-number (certified.Bytes n) = omega arith
+    own-number certified.File = refl
+    own-number certified.Room = refl
+
+pub certificate-bytes-by-number : (file before after : List ℕ) (r : ℕ) → Bytes file → CertificateBytesDone file before after r
+    → NumberDue (certifyRows file (length before)) (r % 256)
+certificate-bytes-by-number file before after r small done =
+    subst (NumberDue (certifyRows file (length before))) (sym (packed-number file before after r done))
+    (certified-by-number file before small)
+
+-- ---- the rehearsal
+
+pub rehearsed-by-number : (file before : List ℕ) → Bytes file
+    → NumberDue (rehearseRows file (length before)) (rehearsedNumber (rehearsedOf file before))
+unfolding rehearsedOf
+rehearsed-by-number file before small = by-tests (goodFile file) refl (leb bytes 65536) refl (leb bytes (length before)) refl
+  where
+    bytes : ℕ
+    bytes = length (rehearsalOf file)
+
+    by-tests : (good : Bool) → goodFile file ≡ good → (short : Bool) → leb bytes 65536 ≡ short → (fits : Bool) → leb bytes (length before) ≡ fits
+        → NumberDue (rehearseRows file (length before))
+        (rehearsedNumber (cond good (cond short (cond fits (rehearsed.Bytes bytes) rehearsed.Room) rehearsed.File) rehearsed.File))
+    by-tests false bad short e fits f = inl (inl (bad-is-no-job file bad), refl)
+    by-tests true good false long fits f = inl (inr (omega (arith, leb-false bytes 65536 long)), refl)
+    by-tests true good true short fits f =
+        inr (⊎-elim (good-is-a-job file small good) (λ (long : 65536 < bytes). omega (arith, leb-true bytes 65536 short, long)), by-room fits f)
+      where
+        by-room : (fits : Bool) → leb bytes (length before) ≡ fits
+            → ((length before < bytes) × (rehearsedNumber (cond fits (rehearsed.Bytes bytes) rehearsed.Room) ≡ 2))
+            ⊎ ((length before < bytes → ⊥) × (rehearsedNumber (cond fits (rehearsed.Bytes bytes) rehearsed.Room) ≡ 0))
+        by-room true room = inr ((λ (over : length before < bytes). omega (arith, leb-true bytes (length before) room, over)), refl)
+        by-room false over = inl (omega (arith, leb-false bytes (length before) over), refl)

@@ -1,0 +1,19 @@
+-- "Numbers are also the order of checks" (document 01, "Turned away"), said of any call and with no walk through its checks: a call is turned
+-- away by a row exactly where that row is given and no row that is checked before it is, and it says 0 exactly where none is given.
+use mathlib.Core.Path.{_≡_}
+use mathlib.Core.Logic.{_⊎_}
+use mathlib.Core.List.{List, [], _∷_}
+use Prim.Native.Nat.{ℕ}
+
+-- a row as it applies to a call: its number, and when it is given
+pub record Row : Type 1 where
+  pub number : ℕ
+  pub given : Type 0
+
+abbrev pub row : ℕ → Type 0 → Row
+row number given = record { number = number; given = given }
+
+-- the number due, of rows in the order of their checks: that of the first row that is given; 0 where none is
+abbrev pub NumberDue : List Row → (number : ℕ) → Type 0
+NumberDue [] number = number ≡ 0
+NumberDue (first ∷ rows) number = (first .given × (number ≡ first .number)) ⊎ ((first .given → ⊥) × NumberDue rows number)

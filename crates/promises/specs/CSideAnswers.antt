@@ -1,0 +1,44 @@
+-- THE C SIDE, ANSWERS: demand 2 over bytes. An answer is accepted exactly where the question is good, the output has two bytes for each value,
+-- and the bytes are those of the line of a right answer for some values; what is handed out is those values in address order, lowest first,
+-- two bytes each, low first. Claimed of every question's seven numbers, every line of bytes, every output, and every answer that meets
+-- `bmc_read`'s contract.
+use mathlib.Core.Path.{_≡_}
+use mathlib.Core.Bool.{true}
+use mathlib.Core.List.{List}
+use Prim.Native.Nat.{ℕ, _*_, _≤_}
+use lib.ListN.{length}
+use Rattle.remainder.specs.Turned.{Bytes}
+use Rattle.lines.specs.Line.{lineOf}
+use Rattle.lines.specs.Write.{atFront}
+use Rattle.packing.specs.Words.{asBytes}
+use Rattle.questions.specs.Question.{goodQuestion}
+use Rattle.questions.specs.Shape.{shapeOf}
+use Rattle.questions.specs.Bytes.{answerBytes}
+use Rattle.questions.specs.declared.question.Question.{Question}
+use Rattle.acceptance.specs.Answer.{Fitting, readingOf, handedOut}
+use Rattle.c_reader.specs.ReadBytes.{packedReading, ReadBytesDone}
+use Rattle.promises.specs.Demand1.{packedNumber}
+use Rattle.promises.specs.CSide.{Numbers, askedBy}
+
+-- when acceptance is due: the question is good, the values have room, an odd last byte counting for none, and the bytes are those of the line
+-- of the right answer for these values, with check byte 00h
+pub record AnswerBytesDue (q : Question) (line before values : List ℕ) : Type 0 where
+  pub good : goodQuestion q ≡ true
+  pub room : 2 * shapeOf q .values ≤ length before
+  pub fitting : Fitting q values
+  pub written : line ≡ asBytes (lineOf (answerBytes q values 0x00))
+
+-- and with which values: the reading is that answer's, packed, and its values stand at the front of the output, the rest as it was
+pub record WithBytes (q : Question) (values before after : List ℕ) (r : ℕ) : Type 0 where
+  pub reading : r ≡ packedReading (readingOf q values)
+  pub output : after ≡ atFront (asBytes (handedOut q values)) before
+
+pub record CSideAnswers : Type 0 where
+  -- what is accepted was due, and is handed out with the values of that answer; every byte that a program can pass is below 256
+  pub only-then : (c : Numbers) (line before after : List ℕ) (r : ℕ) → ReadBytesDone (askedBy c) line before after r
+      → Bytes line → packedNumber r ≡ 0
+      → (values : List ℕ) × AnswerBytesDue (askedBy c) line before values × WithBytes (askedBy c) values before after r
+  -- and where it is due, for any values, it is accepted with those values
+  pub always-then : (c : Numbers) (line before after : List ℕ) (r : ℕ) → ReadBytesDone (askedBy c) line before after r
+      → (values : List ℕ) → AnswerBytesDue (askedBy c) line before values
+      → (packedNumber r ≡ 0) × WithBytes (askedBy c) values before after r

@@ -1,0 +1,35 @@
+-- THE C SIDE, COMMANDS: demand 2 over bytes. A command is written exactly where the question is good and the output has two bytes for each of
+-- its words; then the table's command line stands at the front of the output, two bytes a word, low first, the rest as it was, and bits 16 to
+-- 31 of the answer say how many words. Claimed of every question's seven numbers, every output, and every answer that meets `bmc_command`'s
+-- contract.
+use mathlib.Core.Path.{_≡_}
+use mathlib.Core.Bool.{true}
+use mathlib.Core.List.{List}
+use Prim.Native.Nat.{ℕ, _*_, _≤_}
+use lib.ListN.{length}
+use Rattle.lines.specs.Write.{atFront}
+use Rattle.packing.specs.Words.{asBytes}
+use Rattle.questions.specs.Question.{goodQuestion}
+use Rattle.questions.specs.declared.question.Question.{Question}
+use Rattle.commands.specs.Command.{commandLine}
+use Rattle.c_commands.specs.CommandBytes.{CommandBytesDone}
+use Rattle.promises.specs.Demand1.{packedNumber}
+use Rattle.promises.specs.CSide.{Numbers, askedBy, upperHalf}
+
+-- when a command is due: the question is good, and its line has room; an odd last byte counts for none
+pub record CommandBytesDue (q : Question) (before : List ℕ) : Type 0 where
+  pub good : goodQuestion q ≡ true
+  pub room : 2 * length (commandLine q) ≤ length before
+
+-- and which
+pub record CommandBytesOut (q : Question) (before after : List ℕ) (r : ℕ) : Type 0 where
+  pub words : upperHalf r ≡ length (commandLine q)
+  pub line : after ≡ atFront (asBytes (commandLine q)) before
+
+pub record CSideCommands : Type 0 where
+  -- written only where due,
+  pub only-then : (c : Numbers) (before after : List ℕ) (r : ℕ) → CommandBytesDone (askedBy c) before after r
+      → packedNumber r ≡ 0 → CommandBytesDue (askedBy c) before × CommandBytesOut (askedBy c) before after r
+  -- and always where due
+  pub always-then : (c : Numbers) (before after : List ℕ) (r : ℕ) → CommandBytesDone (askedBy c) before after r
+      → CommandBytesDue (askedBy c) before → (packedNumber r ≡ 0) × CommandBytesOut (askedBy c) before after r

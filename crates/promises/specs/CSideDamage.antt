@@ -1,0 +1,36 @@
+-- THE C SIDE, DAMAGE: demand 3 over bytes. The bytes of a READALL answer with check byte 00h are accepted undamaged, and hand out each device's
+-- register once, in address order, two bytes each, low first. With one to five bits of those bytes turned over for 1 to 14 devices, or one to
+-- three for 15 to 32, they are turned away, and the output stays as it was. Claimed of every good READALL question, alive on and off, any seed,
+-- any register, any values; of bits in any places; and of every answer that meets `bmc_read`'s contract.
+use mathlib.Core.Path.{_≡_}
+use mathlib.Core.List.{List}
+use Prim.Native.Nat.{ℕ, _*_, _≤_}
+use lib.ListN.{length}
+use Rattle.remainder.specs.Turned.{turned, Bytes}
+use Rattle.lines.specs.Write.{atFront}
+use Rattle.packing.specs.Words.{asBytes}
+use Rattle.questions.specs.declared.question.Question.{Question}
+use Rattle.c_reader.specs.ReadBytes.{ReadBytesDone}
+use Rattle.promises.specs.Demand1.{TurnedAway, packedNumber}
+use Rattle.promises.specs.Demand3.{ReadsAll, answerLine, Damage}
+use Rattle.promises.specs.CSide.{Numbers, askedBy, upperHalf}
+
+-- the bytes of the table's answer
+abbrev pub answerInBytes : Question → (values : List ℕ) → List ℕ
+answerInBytes q values = asBytes (answerLine q values)
+
+pub record CSideDamage : Type 0 where
+  pub undamaged : (c : Numbers) (values : List ℕ) → ReadsAll (askedBy c) values
+      → (before after : List ℕ) (r : ℕ) → 2 * c .n ≤ length before → ReadBytesDone (askedBy c) (answerInBytes (askedBy c) values) before after r
+      → (packedNumber r ≡ 0) × (upperHalf r ≡ c .n) × (after ≡ atFront (asBytes values) before)
+  -- one mask a byte, each a byte itself
+  pub five-bits : (c : Numbers) (values : List ℕ) → ReadsAll (askedBy c) values
+      → c .n ≤ 14
+      → (masks : List ℕ) → Bytes masks → Damage (answerInBytes (askedBy c) values) masks 5
+      → (before after : List ℕ) (r : ℕ) → ReadBytesDone (askedBy c) (turned (answerInBytes (askedBy c) values) masks) before after r
+      → TurnedAway (packedNumber r) × (after ≡ before)
+  pub three-bits : (c : Numbers) (values : List ℕ) → ReadsAll (askedBy c) values
+      → 15 ≤ c .n → c .n ≤ 32
+      → (masks : List ℕ) → Bytes masks → Damage (answerInBytes (askedBy c) values) masks 3
+      → (before after : List ℕ) (r : ℕ) → ReadBytesDone (askedBy c) (turned (answerInBytes (askedBy c) values) masks) before after r
+      → TurnedAway (packedNumber r) × (after ≡ before)
