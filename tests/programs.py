@@ -1,14 +1,27 @@
-"""programs.py OURS SECOND [SEED]: holds the certificate program, which the command OURS runs, to the second one on thousands of inputs."""
+"""programs.py SEED SECOND OURS..: holds the certificate program, which the words OURS.. run, to the second one on thousands of inputs, and `job show`,
+which finds the reason where a file is none, to both."""
 import pathlib
 import random
 import struct
 import subprocess
 import sys
 
+sys.dont_write_bytecode = True
+sys.path.insert(0, str(pathlib.Path(__file__).parent.parent / 'tools'))
+import job
+
 
 def answer(command, data):
     done = subprocess.run(command, input=data, stdout=subprocess.PIPE, timeout=20, check=False)
     return done.stdout
+
+
+def is_job_file(data):
+    try:
+        job.show(data)
+    except job.Wrong:
+        return False
+    return True
 
 
 def spoiled(chance, data):
@@ -47,14 +60,17 @@ def inputs(chance, files):
         yield chance.randbytes(size)
 
 
-def main(ours_command, second, seed=17823):
+def main(seed, second, *ours_command):
     print(f'programs: seed {seed}')
     files = [path.read_bytes() for path in sorted(pathlib.Path('examples').glob('*.bmc'))]
     compared = 0
     for data in inputs(random.Random(int(seed)), files):
-        ours, theirs = answer(ours_command.split(), data), answer([second], data)
+        ours, theirs = answer(ours_command, data), answer([second], data)
         if ours != theirs:
             print(f'programs: they differ on {data.hex()}\n  ours   {ours!r}\n  second {theirs!r}')
+            return 1
+        if is_job_file(data) != (ours != b'R 14\n'):
+            print(f'programs: ours says {ours[:20]!r}, and job show says otherwise, on {data.hex()}')
             return 1
         compared += 1
     print(f'programs: {compared} inputs compared, 0 differences')
