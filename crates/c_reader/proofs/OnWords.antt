@@ -21,7 +21,7 @@ use Rattle.questions.specs.Shape.{shapeOf}
 use Rattle.questions.specs.declared.question.Question as asked
 use Rattle.readings.specs.Reading.{placeOf, valuesTaken}
 use Rattle.readings.specs.declared.Reading.{Reading}
-use Rattle.judging.specs.Judge.{callRows, rowsOf, judgeOf}
+use Rattle.judging.specs.Judge.{screenRows, rowsOf, judgeOf}
 use Rattle.judging.proofs.Accepted.{values-fit, some-values}
 use Rattle.judging.proofs.Bounds.{place-within, room-enough}
 use Rattle.reader.specs.Read.{valuesOn, ReadDone}
@@ -32,7 +32,7 @@ use Rattle.c_reader.specs.ReadBytes.{readingOn, packedReading, Packable,
 
 -- a line that no answer has the length of is judged as no line at all
 no-line-fits : (q : asked.Question) (line : List ℕ) (room : ℕ) → 140 < length line → judgeOf q line room ≡ judgeOf q [] room
-unfolding judgeOf rowsOf callRows
+unfolding judgeOf rowsOf screenRows
 no-line-fits q line room long = by-tests (goodQuestion q) (leb (shapeOf q .values) room) refl refl
   where
     by-tests : (t u : Bool) → goodQuestion q ≡ t → leb (shapeOf q .values) room ≡ u → judgeOf q line room ≡ judgeOf q [] room

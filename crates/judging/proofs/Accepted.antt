@@ -31,7 +31,7 @@ use Rattle.readings.proofs.FirstFault.{each-passed, asked-is-so, accepted-passe
 use Rattle.contents.specs.Rows.{byteIn, echoed, pecRight, aliveRight, checkByte, countRight, takenOf}
 use Rattle.contents.specs.InOrder.{byteRows}
 use Rattle.contents.proofs.RowLaws.{hello-taken, write-taken, read-taken}
-use Rattle.judging.specs.Judge.{givenAt, callRows, wordRows, rowsOf, judgeOf}
+use Rattle.judging.specs.Judge.{givenAt, screenRows, rowsOf, judgeOf}
 
 -- a row that looked for a place and passed found none
 found-none : (why : ℕ → Refusal) (p : Place) → givenAt why p ≡ Passed → p ≡ Nowhere
@@ -53,7 +53,7 @@ pub record Taken (q : asked.Question) (line : List ℕ) (room : ℕ) : Type 0 wh
 module _ (q : asked.Question) (line : List ℕ) (room : ℕ) where
   -- where they pass, this is said
   pub taken-reads : Taken q line room → judgeOf q line room ≡ takenOf q (bytesOf line)
-  unfolding judgeOf rowsOf callRows wordRows byteRows
+  unfolding judgeOf rowsOf screenRows byteRows
   taken-reads t =
       let enough = le-leb _ _ (t .enough) in
       let words = eq-eqb _ _ (t .words) in
@@ -62,7 +62,7 @@ module _ (q : asked.Question) (line : List ℕ) (room : ℕ) where
 
   -- an accepted line passed them all
   pub accepted-takes : numberOf (judgeOf q line room) ≡ 0 → Taken q line room
-  unfolding judgeOf rowsOf callRows wordRows byteRows
+  unfolding judgeOf rowsOf screenRows byteRows
   accepted-takes e =
       let row = each-passed (rowsOf q line room) (accepted-passed (firstFault (rowsOf q line room)) (takenOf q (bytesOf line)) e) in
       record {

@@ -29,7 +29,7 @@ use Rattle.readings.proofs.FirstFault.Each.{none, next}
 use Rattle.contents.specs.Rows.{byteIn, echoed, pecRight, aliveRight, checkByte, countRight, takenOf}
 use Rattle.contents.specs.InOrder.{byteRows}
 use Rattle.contents.proofs.RowLaws.{taken-zero}
-use Rattle.judging.specs.Judge.{givenAt, callRows, wordRows, rowsOf, judgeOf}
+use Rattle.judging.specs.Judge.{givenAt, screenRows, rowsOf, judgeOf}
 
 -- ---- a place lies on the line
 
@@ -42,7 +42,7 @@ unfolding firstNoNibble
 nibble-place line i e = omega (arith, at-first _ line 1 (length line - 2) i e .below)
 
 pub place-within : (q : asked.Question) (line : List ℕ) (room : ℕ) → placeOf (judgeOf q line room) ≤ length line
-unfolding judgeOf rowsOf callRows wordRows byteRows
+unfolding judgeOf rowsOf screenRows byteRows
 place-within q line room =
     first-of-each Within pass (rowsOf q line room)
     (next (unless Question (goodQuestion q) refl)
@@ -80,7 +80,7 @@ place-within q line room =
 -- of a good question all that counts is whether the values have room, and of another not even that
 same-room : (q : asked.Question) (line : List ℕ) (room other : ℕ)
     → (goodQuestion q ≡ true → leb (shapeOf q .values) room ≡ leb (shapeOf q .values) other) → judgeOf q line room ≡ judgeOf q line other
-unfolding judgeOf rowsOf callRows
+unfolding judgeOf rowsOf screenRows
 same-room q line room other same = by-test (goodQuestion q) refl
   where
     by-test : (t : Bool) → goodQuestion q ≡ t → judgeOf q line room ≡ judgeOf q line other

@@ -18,10 +18,9 @@ use Rattle.scanning.specs.Place.{firstNoCharacter, firstNoNibble}
 use Rattle.scanning.specs.Frame.{framed}
 use Rattle.scanning.specs.declared.Place.the-variants.{Nowhere}
 use Rattle.scanning.proofs.FirstPlace.{nowhere-passes, passes-nowhere, nibbles-nowhere}
-use Rattle.readings.specs.FirstFault.{firstFault}
 use Rattle.readings.specs.declared.Screened.the-variants.{Passed}
-use Rattle.judging.specs.Judge.{wordRows}
-use Rattle.judging.specs.Clean.{isClean}
+use Rattle.judging.specs.Judge.{screenRows}
+use Rattle.judging.specs.Clean.{WordsSay, isClean}
 
 module _ (line : List ℕ) (clean : isClean line ≡ true) where
   frame : framed line ≡ true
@@ -60,6 +59,6 @@ module _ (line : List ℕ) (clean : isClean line ≡ true) where
   unfolding firstNoCharacter
   characters = passes-nowhere isCharacter line 0 (length line) (λ j lo hi. each-character j (omega arith))
 
-  pub clean-passes : firstFault (wordRows line) ≡ Passed
-  unfolding wordRows
-  clean-passes = simp (characters, frame, nibbles)
+  pub clean-passes : WordsSay line Passed
+  unfolding screenRows
+  clean-passes q room = simp (characters, frame, nibbles)

@@ -1,7 +1,7 @@
 -- Rows 1 to 6 by themselves lead to what all rows say: a line that they turn away is turned away so, and of any other rows 7 to 11 are asked.
 use mathlib.Core.Path.{_≡_, sym, ap, _∙_}
 use mathlib.Core.Bool.{true}
-use mathlib.Core.List.{List, _++_}
+use mathlib.Core.List.{List}
 use Prim.Native.Nat.{ℕ}
 use lib.Dec.{eqb}
 use lib.ListN.{length, getD}
@@ -19,12 +19,12 @@ use Rattle.readings.specs.declared.Reading.the-variants.{Refused}
 use Rattle.readings.specs.declared.Screened.{Screened}
 use Rattle.readings.specs.declared.Screened.the-variants.{Passed, Faulty}
 use Rattle.readings.proofs.FirstFault.{each-passed, asked-is-so, said-joined}
-use Rattle.judging.specs.Judge.{callRows, wordRows, rowsOf, judgeOf, screenOf}
+use Rattle.judging.specs.Judge.{screenRows, rowsOf, judgeOf, screenOf}
 
 module _ (q : asked.Question) (line : List ℕ) (room : ℕ) where
   screened-first : said (screenOf q line room) (judgeBytes q (bytesOf line)) ≡ judgeOf q line room
   unfolding judgeOf rowsOf screenOf judgeBytes
-  screened-first = sym (said-joined (callRows q line room ++ wordRows line) (byteRows q (bytesOf line)) (takenOf q (bytesOf line)))
+  screened-first = sym (said-joined (screenRows q line room) (byteRows q (bytesOf line)) (takenOf q (bytesOf line)))
 
   pub turned-is-refused : (why : Refusal) → screenOf q line room ≡ Faulty why → Refused why ≡ judgeOf q line room
   turned-is-refused why e = ap (λ (s : Screened). said s (judgeBytes q (bytesOf line))) (sym e) ∙ screened-first
@@ -33,14 +33,14 @@ module _ (q : asked.Question) (line : List ℕ) (room : ℕ) where
   passed-is-judged e = ap (λ (s : Screened). said s (judgeBytes q (bytesOf line))) (sym e) ∙ screened-first
 
   module _ (passed : screenOf q line room ≡ Passed) where
-    row : (k : ℕ) → getD (callRows q line room ++ wordRows line) k Passed ≡ Passed
+    row : (k : ℕ) → getD (screenRows q line room) k Passed ≡ Passed
     unfolding screenOf
-    row = each-passed (callRows q line room ++ wordRows line) passed
+    row = each-passed (screenRows q line room) passed
 
     pub passed-good : goodQuestion q ≡ true
-    unfolding callRows
+    unfolding screenRows
     passed-good = asked-is-so Question (goodQuestion q) (row 0)
 
     pub passed-words : length line ≡ shapeOf q .words
-    unfolding callRows
+    unfolding screenRows
     passed-words = eqb-true (length line) (shapeOf q .words) (asked-is-so Length (eqb (length line) (shapeOf q .words)) (row 2))

@@ -26,7 +26,7 @@ use Rattle.readings.proofs.FirstFault.{first-of-each}
 use Rattle.readings.proofs.FirstFault.Each.{none, next}
 use Rattle.contents.specs.Rows.{byteIn, echoed, pecRight, aliveRight, checkByte, countRight, takenOf}
 use Rattle.contents.specs.InOrder.{byteRows}
-use Rattle.judging.specs.Judge.{givenAt, callRows, wordRows, rowsOf, judgeOf}
+use Rattle.judging.specs.Judge.{givenAt, screenRows, rowsOf, judgeOf}
 
 -- byte and count together, of which no reading has both
 abbrev pub carriedByte : Reading → ℕ
@@ -67,7 +67,7 @@ module _ (q : asked.Question) (line : List ℕ) where
   at why Nowhere row = small-taken
 
   pub small-byte : (room : ℕ) → carriedByte (judgeOf q line room) < 256
-  unfolding judgeOf rowsOf callRows wordRows byteRows
+  unfolding judgeOf rowsOf screenRows byteRows
   small-byte room =
       first-of-each Small small-taken (rowsOf q line room)
       (next (unless Question (goodQuestion q) (omega arith))

@@ -1,5 +1,5 @@
--- The table "Turned away" of document 01, rows 1 to 11 in their order: rows 1 to 6 are the two lists here, and rows 7 to 11 the list `byteRows`
--- of crates/contents/specs/InOrder.antt. `rowsOf` joins them. Each check runs over the whole line before the next.
+-- The table "Turned away" of document 01, rows 1 to 11 in their order: rows 1 to 6 are the list here, and rows 7 to 11 the list `byteRows` of
+-- crates/contents/specs/InOrder.antt. `rowsOf` joins them. Each check runs over the whole line before the next.
 use mathlib.Core.List.{List, [], _∷_, _++_}
 use Prim.Native.Nat.{ℕ}
 use lib.Dec.{eqb, leb}
@@ -26,22 +26,17 @@ abbrev pub givenAt : (ℕ → Refusal) → Place → Screened
 givenAt why (At i) = Faulty (why i)
 givenAt why Nowhere = Passed
 
--- rows 1 to 3, on the question, the room and the line's length
-unfoldable pub callRows : asked.Question → List ℕ → (room : ℕ) → List Screened
-callRows q line room =
+-- rows 1 to 6, on the question, the room and the line's words
+unfoldable pub screenRows : asked.Question → List ℕ → (room : ℕ) → List Screened
+screenRows q line room =
     -- 1 QUESTION: kind above 4; alive not 0 or 1; for kinds 1 to 4, n not 1..32; for kinds 2 and 4, the command's device a is n or more
     givenUnless Question (goodQuestion q)
     -- 2 ROOM: the lent output is shorter than what the call writes when nothing else is wrong
     ∷ givenUnless Room (leb (shapeOf q .values) room)
     -- 3 LENGTH: the line's length is not the answer's length
     ∷ givenUnless Length (eqb (length line) (shapeOf q .words))
-    ∷ []
-
--- rows 4 to 6, on the line's words
-unfoldable pub wordRows : List ℕ → List Screened
-wordRows line =
     -- 4 CHARACTER: a word has bit 12..15 set, start 1, a stop bit 0, or odd parity; with the lowest such place
-    givenAt Character (firstNoCharacter line)
+    ∷ givenAt Character (firstNoCharacter line)
     -- 5 FRAME: first word no preamble or last no stop
     ∷ givenUnless Frame (framed line)
     -- 6 MANCHESTER: a word between is no nibble; with the lowest such place
@@ -50,7 +45,7 @@ wordRows line =
 
 -- all of them; rows 7 to 11, ECHO, PEC, ALIVE, CHECK and COUNT, look at the bytes between the ends
 unfoldable pub rowsOf : asked.Question → List ℕ → (room : ℕ) → List Screened
-rowsOf q line room = callRows q line room ++ wordRows line ++ byteRows q (bytesOf line)
+rowsOf q line room = screenRows q line room ++ byteRows q (bytesOf line)
 
 -- what the reader says: the first row that is given, or what is taken where none is
 unfoldable pub judgeOf : asked.Question → List ℕ → (room : ℕ) → Reading
@@ -58,4 +53,4 @@ judgeOf q line room = said (firstFault (rowsOf q line room)) (takenOf q (bytesOf
 
 -- rows 1 to 6 by themselves
 unfoldable pub screenOf : asked.Question → List ℕ → (room : ℕ) → Screened
-screenOf q line room = firstFault (callRows q line room ++ wordRows line)
+screenOf q line room = firstFault (screenRows q line room)

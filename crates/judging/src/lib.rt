@@ -10,13 +10,12 @@ use scanning::first_no_character;
 use scanning::first_no_nibble;
 use scanning::is_framed;
 ghost use mathlib.Core.Path.{_≡_};
-ghost use Rattle.readings.specs.FirstFault.{firstFault};
-ghost use Rattle.judging.specs.Judge.{wordRows, screenOf};
-ghost use Rattle.judging.specs.Clean.{isClean};
+ghost use Rattle.judging.specs.Judge.{screenOf};
+ghost use Rattle.judging.specs.Clean.{WordsSay, isClean};
 
 // Rows 4 to 6. A nibble is a character: a line that is framed and has nibbles between needs no other look.
 fn screen_words(line: &[u16]) -> Screened
-    ensures { λ r. ⌜ r ≡ firstFault (wordRows (now (line .entry))) ⌝ }
+    ensures { λ r. ⌜ WordsSay (now (line .entry)) r ⌝ }
 {
     if is_clean(line) {
         return Screened::Passed;
@@ -35,7 +34,7 @@ fn is_clean(line: &[u16]) -> bool
 
 // Rows 4 to 6 one after the other, each over the whole line before the next.
 fn screen_in_order(line: &[u16]) -> Screened
-    ensures { λ r. ⌜ r ≡ firstFault (wordRows (now (line .entry))) ⌝ }
+    ensures { λ r. ⌜ WordsSay (now (line .entry)) r ⌝ }
 {
     let bad = first_no_character(line);
     if let Place::At(i) = bad {

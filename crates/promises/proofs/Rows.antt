@@ -28,7 +28,7 @@ use Rattle.readings.proofs.FirstFault.Each.{none as no-more, next as and-next}
 use Rattle.contents.specs.Rows.{echoed, pecRight, aliveRight, checkByte, countRight, takenOf}
 use Rattle.contents.specs.InOrder.{byteRows}
 use Rattle.contents.proofs.RowLaws.{taken-zero}
-use Rattle.judging.specs.Judge.{givenAt, callRows, wordRows, rowsOf, judgeOf}
+use Rattle.judging.specs.Judge.{givenAt, screenRows, rowsOf, judgeOf}
 use Rattle.promises.specs.ByNumber.{NumberDue}
 use Rattle.promises.specs.Rows.{countIn, readRows, Carried}
 use Rattle.promises.proofs.ByNumber.{Alike, asks, looks, first-given}
@@ -45,7 +45,7 @@ module _ (q : asked.Question) (line : List ℕ) (lent : ℕ) where
   -- ---- by number
 
   alike : Alike (readRows q line lent) (rowsOf q line lent)
-  unfolding rowsOf callRows wordRows byteRows bytes
+  unfolding rowsOf screenRows byteRows bytes
   alike =
       next (asks 1 _ Question (goodQuestion q) refl (given.bad-question q) (given.good-question q))
       (next (asks 2 _ Room (leb (shapeOf q .values) lent) refl (leb-false (shapeOf q .values) lent)
@@ -85,7 +85,7 @@ module _ (q : asked.Question) (line : List ℕ) (lent : ℕ) where
   at why Nowhere tells = tt
 
   told : Each Told (rowsOf q line lent)
-  unfolding rowsOf callRows wordRows byteRows bytes
+  unfolding rowsOf screenRows byteRows bytes
   told =
       and-next (unless Question (goodQuestion q) (λ e. tt))
       (and-next (unless Room (leb (shapeOf q .values) lent) (λ e. tt))

@@ -6,7 +6,7 @@ use lib.ListN.{length}
 use Rattle.questions.specs.Shape.{shapeOf}
 use Rattle.questions.specs.declared.question.Shape.{Shape}
 use Rattle.contents.proofs.Asked.{was-so, was-not}
-use Rattle.judging.specs.Judge.{callRows, screenOf}
+use Rattle.judging.specs.Judge.{screenRows, screenOf}
 use borrow.Author.Needs.{needs}
 use Rattle.judging.proofs.screen.Statement.{statement}
 use Rattle.judging.proofs.screen.Tie as tie
@@ -15,7 +15,7 @@ is-good-requires : tie.Need-is-good-requires
 is-good-requires c κs = search needs
 
 returns : tie.Need-returns
-unfolding screenOf callRows
+unfolding screenOf screenRows
 returns c =
     let given = was-not (c .before .is-good .ensures) (c .if1 .taken) in
     simp given
@@ -24,7 +24,7 @@ shape-of-requires : tie.Need-shape-of-requires
 shape-of-requires c κs = search needs
 
 returns-2 : tie.Need-returns-2
-unfolding screenOf callRows
+unfolding screenOf screenRows
 returns-2 c =
     let a = c .before .before .before .before .before .args in
     let good = was-so (c .before .before .before .is-good .ensures) (c .before .before .if1 .left) in
@@ -33,7 +33,7 @@ returns-2 c =
     simp (good, given)
 
 returns-3 : tie.Need-returns-3
-unfolding screenOf callRows
+unfolding screenOf screenRows
 returns-3 c =
     let a = c .before .before .before .before .before .before .args in
     let good = was-so (c .before .before .before .before .is-good .ensures) (c .before .before .before .if1 .left) in
@@ -47,7 +47,7 @@ screen-words-requires : tie.Need-screen-words-requires
 screen-words-requires c κs = search needs
 
 returns-4 : tie.Need-returns-4
-unfolding screenOf callRows
+unfolding screenOf screenRows
 returns-4 c =
     let a = c .before .before .before .before .before .before .before .args in
     let good = was-so (c .before .before .before .before .before .is-good .ensures) (c .before .before .before .before .if1 .left) in
@@ -55,7 +55,7 @@ returns-4 c =
     let enough = le-leb (shapeOf (a .q) .values) (a .room) (omega (arith, values, c .before .before .if2 .left)) in
     let words = ap (λ (s : Shape). s .words) (c .before .before .before .shape-of .ensures) in
     let long = eq-eqb (length (a .line .now)) (shapeOf (a .q) .words) (c .before .if3 .left ∙ words) in
-    c .screen-words .ensures ∙ simp (good, enough, long)
+    c .screen-words .ensures (a .q) (a .room) ∙ simp (good, enough, long)
 
 pub screen-spec : {M : Type 1} → statement M
 screen-spec =

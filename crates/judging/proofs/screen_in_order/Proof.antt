@@ -1,7 +1,7 @@
 -- `screen_in_order` meets its contract: each `return` is the row that the tests before it lead to.
 use mathlib.Core.Path.{sym, _∙_}
 use Rattle.contents.proofs.Asked.{was-so, was-not}
-use Rattle.judging.specs.Judge.{wordRows}
+use Rattle.judging.specs.Judge.{screenRows}
 use borrow.Author.Needs.{needs}
 use Rattle.judging.proofs.screen_in_order.Statement.{statement}
 use Rattle.judging.proofs.screen_in_order.Tie as tie
@@ -13,8 +13,8 @@ enum-known-bad : tie.Need-enum-known-bad
 enum-known-bad c = search needs
 
 returns : tie.Need-returns
-unfolding wordRows
-returns c =
+unfolding screenRows
+returns c q room =
     let given = sym (c .before .before .before .first-no-character .ensures) ∙ c .before .bad .given .1 in
     simp given
 
@@ -25,8 +25,8 @@ is-framed-requires : tie.Need-is-framed-requires
 is-framed-requires c κs = search needs
 
 returns-2 : tie.Need-returns-2
-unfolding wordRows
-returns-2 c =
+unfolding screenRows
+returns-2 c q room =
     let characters = sym (c .before .before .before .before .first-no-character .ensures) ∙ c .before .before .enum-told .given .1 in
     let given = was-not (c .before .is-framed .ensures) (c .if1 .taken) in
     simp (characters, given)
@@ -38,8 +38,8 @@ enum-known-odd : tie.Need-enum-known-odd
 enum-known-odd c = search needs
 
 returns-3 : tie.Need-returns-3
-unfolding wordRows
-returns-3 c =
+unfolding screenRows
+returns-3 c q room =
     let characters = sym (c .before .before .before .before .before .before .before .before .first-no-character .ensures) ∙ c .before .before .before .before .before .before .enum-told .given .1 in
     let frame = was-so (c .before .before .before .before .before .is-framed .ensures) (c .before .before .before .before .if1 .left) in
     let given = sym (c .before .before .before .first-no-nibble .ensures) ∙ c .before .odd .given .1 in
@@ -49,8 +49,8 @@ enum-told-2 : tie.Need-enum-told-2
 enum-told-2 c = search needs
 
 returns-4 : tie.Need-returns-4
-unfolding wordRows
-returns-4 c =
+unfolding screenRows
+returns-4 c q room =
     let characters = sym (c .before .before .before .before .before .before .before .first-no-character .ensures) ∙ c .before .before .before .before .before .enum-told .given .1 in
     let frame = was-so (c .before .before .before .before .is-framed .ensures) (c .before .before .before .if1 .left) in
     let nibbles = sym (c .before .before .first-no-nibble .ensures) ∙ c .enum-told2 .given .1 in

@@ -11,13 +11,13 @@ is-clean-requires c κs = search needs
 returns : tie.Need-returns
 returns c =
     let a = c .before .before .before .args in
-    sym (clean-passes (a .line .now) (sym (c .before .is-clean .ensures) ∙ c .if1 .taken))
+    clean-passes (a .line .now) (sym (c .before .is-clean .ensures) ∙ c .if1 .taken)
 
 screen-in-order-requires : tie.Need-screen-in-order-requires
 screen-in-order-requires c κs = search needs
 
 returns-2 : tie.Need-returns-2
-returns-2 c = search needs
+returns-2 c = c .screen-in-order .ensures
 
 pub screen-words-spec : {M : Type 1} → statement M
 screen-words-spec =
