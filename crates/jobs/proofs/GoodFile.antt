@@ -18,9 +18,8 @@ use Rattle.jobs.specs.Check.{sizeIn, entryIn, goodEntry, goodEntries, en
 use Rattle.jobs.specs.Encoded.{AllKeep, none, more, Encodes}
 use Rattle.jobs.proofs.Walk.{one-entry}
 use Rattle.jobs.proofs.EachEntry.{each-entry}
-use Rattle.jobs.proofs.GoodEntry.{good}
 use Rattle.jobs.proofs.Entries.{parts}
-use Rattle.jobs.proofs.OneEntry.{entry-back, rest-back, entry-good, entry-fits, entry-again, drop-bytes}
+use Rattle.jobs.proofs.OneEntry.{entry-back, rest-back, entry-good, good-is-written, drop-bytes}
 
 -- ---- an encoding is good, and what is read off it is what was written
 
@@ -92,12 +91,12 @@ unfolding entriesBytes
 entries-again h =
     each-entry h (λ (bytes : List ℕ). Bytes bytes → Again h bytes) (λ small. again-nothing h)
     (λ front some ok rest small.
-    let first = good h front ok in
+    let first = good-is-written h front small ok in
     let later = rest (drop-bytes (sizeIn front) front small) in
     let split = one-entry [] (λ (f : List ℕ) (l : List Entry). entryIn f ∷ l) front some in
     record {
-      keep = subst (AllKeep h) (sym split) (more (entryIn front) (entriesIn (drop (sizeIn front) front)) (entry-fits front small (first .whole)) (first .rules) (later .keep));
-      again = ap entriesBytes split ∙ ap (λ (l : List ℕ). entryBytes (entryIn front) ++ l) (later .again) ∙ entry-again front small (first .whole);
+      keep = subst (AllKeep h) (sym split) (more (entryIn front) (entriesIn (drop (sizeIn front) front)) (first .fits) (first .rules) (later .keep));
+      again = ap entriesBytes split ∙ ap (λ (l : List ℕ). entryBytes (entryIn front) ++ l) (later .again) ∙ first .again;
     })
 
 -- A GOOD FILE IS AN ENCODING, of the header and the entries that the check reads off it

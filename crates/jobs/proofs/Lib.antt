@@ -3,6 +3,6 @@ mod EachEntry
 mod GoodEntry
 pub mod Entries
 pub mod Placed
-mod OneEntry
+pub mod OneEntry
 pub mod GoodFile
 pub mod Agree

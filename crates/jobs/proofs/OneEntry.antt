@@ -1,4 +1,4 @@
--- One entry's bytes read, and what is read written again.
+-- One entry's bytes read, and what is read written again: an entry is good exactly where it is the encoding of one that keeps the rules.
 use mathlib.Core.Path.{_≡_, sym, ap, ap₂, subst, _∙_}
 use mathlib.Core.Bool.{Bool, true, _&&_}
 use mathlib.Core.Logic.{⊎-elim}
@@ -18,7 +18,7 @@ use Rattle.jobs.specs.Format.{Entry, entryBytes}
 use Rattle.jobs.specs.Rules.{keepsRules}
 use Rattle.jobs.specs.Encoded.{Fits}
 use Rattle.jobs.specs.Check.{wordsIn, sizeIn, entryIn, goodEntry}
-use Rattle.jobs.proofs.GoodEntry.{words-number}
+use Rattle.jobs.proofs.GoodEntry.{words-number, good}
 
 -- ---- an entry's bytes, and others behind them
 
@@ -45,6 +45,7 @@ module _ (e : Entry) (fits : Fits e) (rest : List ℕ) where
   pub rest-back : drop (sizeIn bytes) bytes ≡ rest
   rest-back = drop-at (entryBytes e) rest (sizeIn bytes) (sym entry-size)
 
+  -- an entry that keeps the rules is good
   pub entry-good : (h : Header) → keepsRules h e ≡ true → goodEntry h bytes ≡ true
   unfolding goodEntry
   entry-good h rules =
@@ -74,13 +75,13 @@ module _ (front : List ℕ) (small : Bytes front) (whole : sizeIn front ≤ leng
   answer-bytes : Bytes answer
   answer-bytes = take-bytes (2 * wordsIn front) (drop 8 front) (drop-bytes 8 front small)
 
-  pub entry-fits : Fits (entryIn front)
+  entry-fits : Fits (entryIn front)
   entry-fits =
       let low : getD front 2 0 < 256 = small 2 in
       let high : getD front 3 0 < 256 = small 3 in
       record { kind = small 0; reg = small 1; device = small 4; seed = small 5; value = omega arith; words = words-wide answer answer-bytes }
 
-  pub entry-again : entryBytes (entryIn front) ++ drop (sizeIn front) front ≡ front
+  entry-again : entryBytes (entryIn front) ++ drop (sizeIn front) front ≡ front
   entry-again =
       let e = entryIn front in
       let low : getD front 2 0 < 256 = small 2 in
@@ -100,3 +101,13 @@ module _ (front : List ℕ) (small : Bytes front) (whole : sizeIn front ≤ leng
       ∙ ap₂ (λ (c d : ℕ). made (getD front 2 0) (getD front 3 0) c d (asBytes (e .words) ++ drop (sizeIn front) front)) n0 n1
       ∙ ap (made (getD front 2 0) (getD front 3 0) (getD front 6 0) (getD front 7 0)) tail
       ∙ sym (tabulated-front 8 front (omega arith))
+
+-- A GOOD ENTRY IS AN ENCODING, of the entry that is read off it, with the rest behind
+pub record Written (h : Header) (front : List ℕ) : Type 0 where
+  pub fits : Fits (entryIn front)
+  pub rules : keepsRules h (entryIn front) ≡ true
+  pub again : entryBytes (entryIn front) ++ drop (sizeIn front) front ≡ front
+
+pub good-is-written : (h : Header) (front : List ℕ) → Bytes front → goodEntry h front ≡ true → Written h front
+good-is-written h front small ok =
+    let is = good h front ok in record { fits = entry-fits front small (is .whole); rules = is .rules; again = entry-again front small (is .whole) }

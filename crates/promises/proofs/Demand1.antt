@@ -153,7 +153,8 @@ demand-1 = record {
       (chain-due n memory line out) (λ after r done away. both (refused-step _ _ _ out (after .1) (after .0) r done away));
   open-file = λ file small.
       one refl (λ after r done. (done, nothing after)) (opened-by-number file small) (λ after r done away. nothing after);
-  next-entry = λ h file c. one refl (λ after r done. (done, nothing after)) (next-by-number h file c) (λ after r done away. nothing after);
+  next-entry = λ h file c small.
+      one refl (λ after r done. (done, nothing after)) (next-by-number h file c small) (λ after r done away. nothing after);
   print = λ n numbers s text.
       one (record { says = refl; leaves = refl }) (λ after r done. (done .says, done .leaves)) (printed-by-number n numbers s text)
       (refused-print n numbers s text);

@@ -1,6 +1,6 @@
 -- WHICH NUMBER A JOB FILE GETS (document 01, "Turned away"): FILE exactly where the bytes are the encoding of no header and entries that keep the
--- rules, of a rehearsal also where the answered file would be too long; then ROOM exactly where what is to be written is longer than the lent
--- memory; else 0.
+-- rules, of an entry taken out where they begin with the encoding of no entry that keeps them, of a rehearsal also where the answered file would
+-- be too long; then ROOM exactly where what is to be written is longer than the lent memory; else 0.
 use mathlib.Core.Path.{_≡_, refl, sym, ap, subst, _∙_}
 use mathlib.Core.Bool.{Bool, true, false, cond, false≢true}
 use mathlib.Core.Logic.{_⊎_, inl, inr, ⊎-elim}
@@ -16,8 +16,9 @@ use Rattle.jobs.specs.Format.{Entry}
 use Rattle.jobs.specs.declared.Cursor.{Cursor}
 use Rattle.jobs.specs.declared.Opened.the-variants as opened
 use Rattle.jobs.specs.declared.Next.the-variants as next
-use Rattle.jobs.specs.Check.{headerIn, entriesIn, goodEntry, goodFile, placedIn, openedOf, openedNumber, nextIn, nextOf, nextNumber}
+use Rattle.jobs.specs.Check.{headerIn, sizeIn, entryIn, entriesIn, goodEntry, goodFile, placedIn, openedOf, openedNumber, nextIn, nextOf, nextNumber}
 use Rattle.jobs.specs.Encoded.{Encodes}
+use Rattle.jobs.proofs.OneEntry.{entry-good, good-is-written, drop-bytes}
 use Rattle.jobs.proofs.GoodFile.{encoded-is-good, good-is-encoded}
 use Rattle.letters.specs.declared.Standing.{Standing}
 use Rattle.printing.specs.Text.{certificateText}
@@ -31,7 +32,7 @@ use Rattle.rehearsal.specs.Rehearsal.{rehearsalOf, rehearsedOf, rehearsedNumber
 use Rattle.rehearsal.specs.declared.Rehearsed.the-variants as rehearsed
 use Rattle.bmc.specs.Exports.{packedCertified, CertificateBytesDone}
 use Rattle.promises.specs.ByNumber.{NumberDue}
-use Rattle.promises.specs.CallRows.{NoJobFile, openRows, nextRows, printRows, certifyRows, rehearseRows}
+use Rattle.promises.specs.CallRows.{NoJobFile, NoEntry, openRows, nextRows, printRows, certifyRows, rehearseRows}
 use Rattle.promises.proofs.CallsByNumber.{enough-room, short-of-room}
 
 -- a test of the bytes, in place of what it says of them
@@ -40,6 +41,13 @@ bad-is-no-job file bad h es encoded = false≢true (sym bad ∙ encoded-is-good 
 
 pub good-is-a-job : (file : List ℕ) → Bytes file → goodFile file ≡ true → NoJobFile file → ⊥
 good-is-a-job file small good none = none (headerIn file) (entriesIn (drop 7 file)) (good-is-encoded file small good)
+
+bad-is-no-entry : (h : Header) (rest : List ℕ) → goodEntry h rest ≡ false → NoEntry h rest
+bad-is-no-entry h rest bad e later fits rules written = false≢true (sym bad ∙ ap (goodEntry h) written ∙ entry-good e fits later h rules)
+
+good-is-an-entry : (h : Header) (rest : List ℕ) → Bytes rest → goodEntry h rest ≡ true → NoEntry h rest → ⊥
+good-is-an-entry h rest small good none =
+    let is = good-is-written h rest small good in none (entryIn rest) (drop (sizeIn rest) rest) (is .fits) (is .rules) (sym (is .again))
 
 -- ---- a file opened, an entry taken out
 
@@ -51,18 +59,19 @@ opened-by-number file small = by-test (goodFile file) refl
     by-test true good = inr (good-is-a-job file small good, refl)
     by-test false bad = inl (bad-is-no-job file bad, refl)
 
-pub next-by-number : (h : Header) (file : List ℕ) (c : Cursor) → NumberDue (nextRows h (drop (c .at) file)) (nextNumber (nextOf h file c))
+pub next-by-number : (h : Header) (file : List ℕ) (c : Cursor) → Bytes file
+    → NumberDue (nextRows h (drop (c .at) file)) (nextNumber (nextOf h file c))
 unfolding nextOf
-next-by-number h file c = by-rest (drop (c .at) file)
+next-by-number h file c small = by-rest (drop (c .at) file) (drop-bytes (c .at) file small)
   where
-    by-rest : (rest : List ℕ) → NumberDue (nextRows h rest) (nextNumber (nextIn h (c .at) rest))
-    by-rest [] = inr ((λ some. omega (arith, some .0)), refl)
-    by-rest (b ∷ rest) = by-test (goodEntry h (b ∷ rest)) refl
+    by-rest : (rest : List ℕ) → Bytes rest → NumberDue (nextRows h rest) (nextNumber (nextIn h (c .at) rest))
+    by-rest [] few = inr ((λ some. omega (arith, some .0)), refl)
+    by-rest (b ∷ rest) few = by-test (goodEntry h (b ∷ rest)) refl
       where
         by-test : (good : Bool) → goodEntry h (b ∷ rest) ≡ good
             → NumberDue (nextRows h (b ∷ rest)) (nextNumber (cond good (placedIn h (c .at) (b ∷ rest)) next.File))
-        by-test true good = inr ((λ some. false≢true (sym (some .1) ∙ good)), refl)
-        by-test false bad = inl ((omega arith, bad), refl)
+        by-test true good = inr ((λ some. good-is-an-entry h (b ∷ rest) few good (some .1)), refl)
+        by-test false bad = inl ((omega arith, bad-is-no-entry h (b ∷ rest) bad), refl)
 
 -- ---- a text printed
 

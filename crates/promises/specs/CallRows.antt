@@ -1,17 +1,17 @@
 -- Rows of "Turned away" as they apply to the calls besides the reader, in the order of their checks, each said as document 01's table says it.
 use mathlib.Core.Path.{_≡_}
-use mathlib.Core.Bool.{true, false}
+use mathlib.Core.Bool.{true}
 use mathlib.Core.Logic.{_⊎_}
-use mathlib.Core.List.{List, [], _∷_}
+use mathlib.Core.List.{List, [], _∷_, _++_}
 use Prim.Native.Nat.{ℕ, _*_, _/_, _%_, _≤_, _<_}
 use lib.ListN.{length}
 use Rattle.questions.specs.declared.question.Question.{Question}
 use Rattle.commands.specs.Command.{commandLine}
 use Rattle.cells.specs.Cell.{enabled}
 use Rattle.jobs.specs.declared.Header.{Header}
-use Rattle.jobs.specs.Format.{Entry}
-use Rattle.jobs.specs.Check.{goodEntry}
-use Rattle.jobs.specs.Encoded.{Encodes}
+use Rattle.jobs.specs.Format.{Entry, entryBytes}
+use Rattle.jobs.specs.Rules.{keepsRules}
+use Rattle.jobs.specs.Encoded.{Fits, Encodes}
 use Rattle.printing.specs.Print.{mostEntries}
 use Rattle.certificate.specs.Certificate.{certificateOf}
 use Rattle.rehearsal.specs.Rehearsal.{rehearsalOf}
@@ -49,12 +49,16 @@ stepBytesRows n device bytes lent line =
 abbrev pub NoJobFile : (file : List ℕ) → Type 0
 NoJobFile file = (h : Header) (es : List Entry) → Encodes h es file → ⊥
 
--- a file opened; and of a cursor in it, something stands there that is no entry by the definition's own test: no more is claimed there
+-- and of the bytes from a cursor on: they begin with the encoding of no entry that keeps the rules
+abbrev pub NoEntry : Header → (rest : List ℕ) → Type 0
+NoEntry h rest = (e : Entry) (later : List ℕ) → Fits e → keepsRules h e ≡ true → rest ≡ entryBytes e ++ later → ⊥
+
+-- a file opened; an entry taken out, where something stands (behind the last entry is no refusal)
 abbrev pub openRows : (file : List ℕ) → List Row
 openRows file = row 14 (NoJobFile file) ∷ []
 
 abbrev pub nextRows : Header → (rest : List ℕ) → List Row
-nextRows h rest = row 14 ((1 ≤ length rest) × (goodEntry h rest ≡ false)) ∷ []
+nextRows h rest = row 14 ((1 ≤ length rest) × NoEntry h rest) ∷ []
 
 -- a text printed: FILE for more entries than a job file can have
 abbrev pub printRows : (entries lent written : ℕ) → List Row

@@ -96,7 +96,7 @@ pub record Demand1 : Type 0 where
       (λ after. ChainDone n memory (after .0) line out (after .1))
   -- a job file opened and its entries taken out; a certificate printed
   pub open-file : (file : List ℕ) → Bytes file → Replies (openRows file) openedNumber (openedOf file)
-  pub next-entry : (h : Header) (file : List ℕ) (c : Cursor) → Replies (nextRows h (drop (c .at) file)) nextNumber (nextOf h file c)
+  pub next-entry : (h : Header) (file : List ℕ) (c : Cursor) → Bytes file → Replies (nextRows h (drop (c .at) file)) nextNumber (nextOf h file c)
   pub print : (n : ℕ) (numbers : List ℕ) (s : Standing) (text : List ℕ)
       → Answers (printRows (length numbers) (length text) (length (certificateText n numbers s))) printedNumber text (PrintDone n numbers s text)
   -- the certificate and the rehearsal, of every file of bytes
