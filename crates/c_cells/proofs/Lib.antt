@@ -1,4 +1,5 @@
 mod Named
 mod ByCell
 mod Numbered
+pub mod EachCell
 pub mod Agree

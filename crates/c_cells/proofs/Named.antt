@@ -16,13 +16,13 @@ use Rattle.c_cells.specs.CellsBytes.{registersOf, roomNumber, cellsNumbe
 use Rattle.c_cells.proofs.Numbered.{turned-away}
 
 module _ {A : Type 0} (bipolar : ℕ) (named : Range → A) (none : A) where
-  is-unipolar : bipolar ≡ 0 → byRange bipolar named none ≡ named Unipolar
+  pub is-unipolar : bipolar ≡ 0 → byRange bipolar named none ≡ named Unipolar
   is-unipolar e = ap (λ (t : Bool). cond t (named Unipolar) (cond (eqb bipolar 1) (named Bipolar) none)) (eq-eqb bipolar 0 e)
 
-  is-bipolar : bipolar ≡ 1 → byRange bipolar named none ≡ named Bipolar
+  pub is-bipolar : bipolar ≡ 1 → byRange bipolar named none ≡ named Bipolar
   is-bipolar e = ap (λ (k : ℕ). byRange k named none) e
 
-  is-neither : (bipolar ≡ 0 → ⊥) → (bipolar ≡ 1 → ⊥) → byRange bipolar named none ≡ none
+  pub is-neither : (bipolar ≡ 0 → ⊥) → (bipolar ≡ 1 → ⊥) → byRange bipolar named none ≡ none
   is-neither e f =
       ap₂ (λ (t u : Bool). cond t (named Unipolar) (cond u (named Bipolar) none)) (ne-eqb bipolar 0 e) (ne-eqb bipolar 1 f)
 

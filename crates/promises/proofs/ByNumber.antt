@@ -1,9 +1,10 @@
--- Laws of the number due: it is one number, and a call whose checks, in their order, are given where the rows are says its number.
+-- Laws of the number due: it is one number, of rows with small numbers a small one, and a call whose checks, in their order, are given where the rows are says its number.
 use mathlib.Core.Path.{_≡_, refl, sym, _∙_}
 use mathlib.Core.Bool.{Bool, true, false}
 use mathlib.Core.Logic.{inl, inr}
 use mathlib.Core.List.{List, [], _∷_}
-use Prim.Native.Nat.{ℕ}
+use Prim.Native.Nat.{ℕ, _<_}
+use native.Mathlib.Omega.{arith}
 use Rattle.scanning.specs.declared.Place.{Place}
 use Rattle.scanning.specs.declared.Place.the-variants.{At, Nowhere}
 use Rattle.readings.specs.Reading.{refusalNumber, numberOf}
@@ -22,6 +23,16 @@ one-due (first ∷ rows) (inl g) (inl h) = g .1 ∙ sym (h .1)
 one-due (first ∷ rows) (inl g) (inr f) = absurd (f .0 (g .0))
 one-due (first ∷ rows) (inr e) (inl h) = absurd (e .0 (h .0))
 one-due (first ∷ rows) (inr e) (inr f) = one-due rows (e .1) (f .1)
+
+-- rows whose numbers are below 256, and so the one that is due
+abbrev pub Small : List Row → Type 0
+Small [] = Unit
+Small (first ∷ rows) = (first .number < 256) × Small rows
+
+pub below-256 : (rows : List Row) (number : ℕ) → Small rows → NumberDue rows number → number < 256
+below-256 [] number small due = omega (arith, due)
+below-256 (first ∷ rows) number small (inl due) = omega (arith, small .0, due .1)
+below-256 (first ∷ rows) number small (inr due) = below-256 rows number (small .1) (due .1)
 
 -- ---- a check that is given exactly where a row is
 

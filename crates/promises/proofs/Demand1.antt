@@ -2,10 +2,8 @@
 -- is the one due, law by law; and what is turned away has written nothing.
 use mathlib.Core.Path.{_≡_, refl, sym, ap, _∙_, subst}
 use mathlib.Core.Bool.{Bool, true, false, cond}
-use mathlib.Core.Logic.{inl, inr}
 use mathlib.Core.List.{List, [], _∷_}
-use Prim.Native.Nat.{ℕ, zero, suc, _+_, _/_, _%_, _<_}
-use native.Mathlib.Nat.{le-of-suc-le-suc, not-suc-le-zero}
+use Prim.Native.Nat.{ℕ, suc, _+_, _/_, _%_, _<_}
 use native.Mathlib.Omega.{arith}
 use lib.Dec.{leb, lit<}
 use lib.ListN.{length, getD}
@@ -21,18 +19,21 @@ use Rattle.readings.specs.Reading.{numberOf}
 use Rattle.commands.specs.Command.{issuedOf, issuedNumber}
 use Rattle.commands.specs.declared.Issued.{Issued}
 use Rattle.commands.specs.declared.Issued.the-variants as issued
-use Rattle.cells.specs.Cell.{cellsFrom, cellsOf, cellNumber}
+use Rattle.cells.specs.Cell.{cellOf, cellsFrom, cellsOf, cellNumber}
 use Rattle.cells.specs.declared.Range.{Range}
 use Rattle.cells.specs.declared.Register.{Register}
+use Rattle.cells.specs.declared.Cell.{Cell}
 use Rattle.cells.specs.declared.Cell.the-variants.{NotMeasured}
 use Rattle.c_reader.specs.ReadBytes.{readingOn, packedReading}
 use Rattle.c_commands.specs.CommandBytes.{packedIssued}
 use Rattle.c_twin.specs.TwinBytes.{powerNumber, stepNumber}
 use Rattle.c_cells.specs.CellsBytes.{cellsNumber}
+use Rattle.c_cells.proofs.EachCell.{cells-number, cell-at}
 use Rattle.promises.specs.ByNumber.{Row, NumberDue}
 use Rattle.promises.specs.Rows.{readRows}
 use Rattle.promises.specs.CallRows.{room, commandRows, powerOnRows, stepBytesRows, cellRows, cellsIntoRows}
 use Rattle.promises.specs.Demand1.{TurnedAway, packedNumber, Answers, Demand1}
+use Rattle.promises.proofs.ByNumber.{Small, below-256}
 use Rattle.promises.proofs.Rows.{by-number}
 use Rattle.promises.proofs.CallsByNumber.{enough-room, short-of-room, command-due, powered-due, powered-bytes-due, chain-due, step-due}
 use Rattle.promises.proofs.CallsByNumber.{step-bytes-due, cell-due, cell-into-due, cells-into-due}
@@ -43,6 +44,7 @@ use Rattle.promises.proofs.RefusedWritesNothing.{refused-print, refused
 use Rattle.promises.proofs.RefusedBytes.{refused-read-bytes, refused-command-bytes, refused-cell, refused-cells}
 use Rattle.promises.proofs.RefusedBytes.{refused-power-bytes, refused-step-bytes, refused-certificate-bytes}
 use Rattle.promises.proofs.CSidePacked.{apart, small-reading}
+use Rattle.promises.proofs.OwnCell.{own-cell}
 
 -- a contract that names the answer and what is left has one answer
 one : {Answer Memory : Type 0} {rows : List Row} {number : Answer → ℕ} {before : Memory} {Contract : Memory → Answer → Type 0} {answer : Answer} {leaves : Memory}
@@ -77,22 +79,15 @@ unfolding outOf
 refused-put bytes out after r done away =
     done .leaves ∙ left-as-it-was (atFront (lineOf bytes) out) out _ (subst (λ (p : Put). TurnedAway (putNumber p)) (done .says) away)
 
--- a cell for each register
-cells-number : (range : Range) (mask c : ℕ) (registers : List Register) → length (cellsFrom range mask c registers) ≡ length registers
-cells-number range mask c [] = refl
-cells-number range mask c (register ∷ registers) = ap suc (cells-number range mask (c + 1) registers)
-
--- the twelve, cell after cell
-cells-due : (range : Range) (mask c : ℕ) (registers : List Register) (k : ℕ) → k < length registers
-    → NumberDue (cellRows mask (c + k) (getD registers k (record { 0 = 0 }) .0)) (cellNumber (getD (cellsFrom range mask c registers) k NotMeasured))
-cells-due range mask c [] k below = absurd (not-suc-le-zero below)
-cells-due range mask c (register ∷ registers) zero below =
-    subst (λ (x : ℕ). NumberDue (cellRows mask x (register .0)) (cellNumber (getD (cellsFrom range mask c (register ∷ registers)) 0 NotMeasured)))
-    (omega arith) (cell-due range mask c (register .0))
-cells-due range mask c (register ∷ registers) (suc k) below =
-    subst (λ (x : ℕ). NumberDue (cellRows mask x (getD registers k (record { 0 = 0 }) .0))
-    (cellNumber (getD (cellsFrom range mask c (register ∷ registers)) (suc k) NotMeasured))) (omega arith)
-    (cells-due range mask (c + 1) registers k (le-of-suc-le-suc below))
+-- the twelve, each by its own register
+each-due : (range : Range) (mask : ℕ) (registers : List Register) (k : ℕ) → k < length registers
+    → NumberDue (cellRows mask (suc k) (getD registers k (record { 0 = 0 }) .0)) (cellNumber (getD (cellsFrom range mask 1 registers) k NotMeasured))
+each-due range mask registers k below =
+    let register = getD registers k (record { 0 = 0 }) .0 in
+    let next : 1 + k ≡ suc k = omega arith in
+    subst (λ (x : Cell). NumberDue (cellRows mask (suc k) register) (cellNumber x))
+    (sym (cell-at range mask 1 registers k NotMeasured (record { 0 = 0 }) below ∙ ap (λ (c : ℕ). cellOf range mask c register) next))
+    (cell-due range mask (suc k) register)
 
 -- packed, the number stands in the lowest eight bits
 read-bytes-due : (q : Question) (line out : List ℕ)
@@ -110,16 +105,7 @@ command-bytes-due q lent = subst (NumberDue (commandRows q lent)) (sym (own-numb
     own-number issued.Question = refl
     own-number issued.Room = refl
 
--- a row's number is below 256, and so its own lowest eight bits
-abbrev Small : List Row → Type 0
-Small [] = Unit
-Small (first ∷ rows) = (first .number < 256) × Small rows
-
-below-256 : (rows : List Row) (number : ℕ) → Small rows → NumberDue rows number → number < 256
-below-256 [] number small due = omega (arith, due)
-below-256 (first ∷ rows) number small (inl due) = omega (arith, small .0, due .1)
-below-256 (first ∷ rows) number small (inr due) = below-256 rows number (small .1) (due .1)
-
+-- a small number is its own lowest eight bits
 small-due : (rows : List Row) (number : ℕ) → Small rows → NumberDue rows number → NumberDue rows (packedNumber number)
 small-due rows number small due =
     let is : number < 256 = below-256 rows number small due in
@@ -139,10 +125,7 @@ demand-1 = record {
       one refl (λ after r done. (done, nothing after)) (cell-due range mask c register) (λ after r done away. nothing after);
   read-cells = λ range mask registers. cells-number range mask 1 registers;
   each-cell = λ range mask registers k below.
-      one refl (λ after r done. (done, nothing after))
-      (subst (λ (x : ℕ). NumberDue (cellRows mask x (getD registers k (record { 0 = 0 }) .0))
-      (cellNumber (getD (cellsFrom range mask 1 registers) k NotMeasured))) (omega arith) (cells-due range mask 1 registers k below))
-      (λ after r done away. nothing after);
+      one refl (λ after r done. (done, nothing after)) (each-due range mask registers k below) (λ after r done away. nothing after);
   power-on = λ n memory.
       one (record { says = refl; leaves = refl }) (λ after r done. (done .says, done .leaves)) (powered-due n memory) (refused-power-on n memory);
   step = λ n device memory line out.
@@ -181,6 +164,7 @@ demand-1 = record {
       (small-due (cellsIntoRows bipolar (length registers) (length microvolts) (length volts) (length answers))
       (cellsNumber bipolar registers microvolts volts answers) (lit< tt, (lit< tt, (lit< tt, tt))) (cells-into-due bipolar registers microvolts volts answers))
       (λ after r done away. three (refused-cells enabled bipolar registers microvolts (after .0) volts (after .1) answers (after .2) r done away));
+  each-cell-into = own-cell;
   power-on-bytes = λ n memory.
       one (record { says = refl; leaves = refl }) (λ after r done. (done .says, done .leaves))
       (small-due (powerOnRows 512 n (length memory)) (powerNumber n (length memory)) (lit< tt, tt) (powered-bytes-due n (length memory))) (refused-power-bytes n memory);

@@ -6,6 +6,7 @@ pub mod JobNumbers
 pub mod RefusedWritesNothing
 pub mod RefusedBytes
 pub mod CSidePacked
+mod OwnCell
 pub mod Demand1
 pub mod OwnLetter
 mod LinesInOrder

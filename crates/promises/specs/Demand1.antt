@@ -3,6 +3,8 @@
 -- contract, and no other; the answer has the number that is due by document 01's rows, in the order of their checks, and 0 where none is given;
 -- where it has a row's number, whichever row, the memory is as it was. (That a call comes to an end is part of its function's own check.)
 use mathlib.Core.Path.{_≡_}
+use mathlib.Core.Bool.{false}
+use mathlib.Core.Logic.{_⊎_}
 use mathlib.Core.List.{List, [], _∷_}
 use Prim.Native.Nat.{ℕ, suc, _/_, _%_, _≤_, _<_}
 use lib.IntN.{ℤ}
@@ -11,14 +13,14 @@ use lib.ListN.{length, getD, drop}
 use Rattle.remainder.specs.Turned.{Bytes}
 use Rattle.pec.specs.Pec.{pecOf}
 use Rattle.lines.specs.Line.{lineOf}
-use Rattle.packing.specs.Words.{lineOn}
+use Rattle.packing.specs.Words.{lineOn, wordAt}
 use Rattle.writing.specs.PutLine.{LinePut, putNumber}
 use Rattle.questions.specs.declared.question.Question.{Question}
 use Rattle.readings.specs.Reading.{numberOf}
 use Rattle.reader.specs.Read.{ReadDone}
 use Rattle.parts.specs.Part.{partOf}
 use Rattle.commands.specs.Command.{CommandPut, issuedNumber}
-use Rattle.cells.specs.Cell.{cellOf, cellsOf, cellNumber}
+use Rattle.cells.specs.Cell.{enabled, cellOf, cellsOf, cellNumber}
 use Rattle.cells.specs.declared.Range.{Range}
 use Rattle.cells.specs.declared.Register.{Register}
 use Rattle.cells.specs.declared.Cell.{Cell}
@@ -75,6 +77,19 @@ packedNumber r = r % 256
 abbrev pub noNumber : {Answer : Type 0} → Answer → ℕ
 noNumber r = 0
 
+-- what a call of C's twelve cells has done for cell k + 1, whose register is word k of the registers' bytes, low byte first (m and v are for
+-- places past the end, and can be any)
+pub record OwnCell (mask bipolar : ℕ) (registers : List ℕ) (microvolts microvoltsAfter : List ℤ) (volts voltsAfter : List Float)
+    (answersAfter : List ℕ) (k : ℕ) : Type 0 where
+  -- its answer has the number that is due by its own rows,
+  pub by-number : NumberDue (cellRows mask (suc k) (wordAt registers k)) (packedNumber (getD answersAfter k 0))
+  -- turned away, or not enabled, it has written nothing into its own places,
+  pub stays : TurnedAway (packedNumber (getD answersAfter k 0)) ⊎ (enabled mask (suc k) ≡ false) → (m : ℤ) (v : Float)
+      → (getD microvoltsAfter k m ≡ getD microvolts k m) × (getD voltsAfter k v ≡ getD volts k v)
+  -- and all is as C's call of one cell has it
+  pub alone : (m : ℤ) (v : Float)
+      → CellDone (suc k) mask (wordAt registers k) bipolar (getD microvolts k m) (getD microvoltsAfter k m) (getD volts k v) (getD voltsAfter k v) (getD answersAfter k 0)
+
 pub record Demand1 : Type 0 where
   -- the reader and the second call (what that hands back: SecondCall.antt); the command writer, and the writing of a line
   pub read : (q : Question) (line out : List ℕ) → Answers (readRows q line (length out)) numberOf out (ReadDone q line out)
@@ -115,6 +130,10 @@ pub record Demand1 : Type 0 where
       → Answers {Memory = List ℤ × List Float × List ℕ}
       (cellsIntoRows bipolar (length registers) (length microvolts) (length volts) (length answers)) packedNumber (microvolts, volts, answers)
       (λ after. CellsDone enabled bipolar registers microvolts (after .0) volts (after .1) answers (after .2))
+  -- accepted, that call has answered each of the twelve by its own register
+  pub each-cell-into : (mask bipolar : ℕ) (registers : List ℕ) (microvolts microvoltsAfter : List ℤ) (volts voltsAfter : List Float)
+      (answers answersAfter : List ℕ) (r : ℕ) → CellsDone mask bipolar registers microvolts microvoltsAfter volts voltsAfter answers answersAfter r
+      → packedNumber r ≡ 0 → (k : ℕ) → k < 12 → OwnCell mask bipolar registers microvolts microvoltsAfter volts voltsAfter answersAfter k
   pub power-on-bytes : (n : ℕ) (memory : List ℕ) → Answers (powerOnRows 512 n (length memory)) packedNumber memory (PowerBytesDone n memory)
   pub step-bytes : (n device : ℕ) (memory line out : List ℕ)
       → Answers {Memory = List ℕ × List ℕ} (stepBytesRows n device (length memory) (length out) (length line)) packedNumber (memory, out)
