@@ -17,7 +17,7 @@ use Rattle.commands.specs.Command.{commandLine, issuedOf, issuedNumber}
 use Rattle.commands.specs.declared.Issued.the-variants.{Words, Question, Room}
 use Rattle.registers.specs.Memory.{isChain, poweredOf, poweredNumber}
 use Rattle.registers.specs.declared.Powered.the-variants as powered
-use Rattle.twin.specs.Step.{steppedOf, steppedNumber}
+use Rattle.twin.specs.Step.{isSpan, steppedOf, steppedNumber}
 use Rattle.twin.specs.declared.step.Stepped.the-variants as stepped
 use Rattle.cells.specs.Cell.{enabled, cellOf, cellNumber}
 use Rattle.cells.specs.Voltage.{voltageOf}
@@ -30,7 +30,7 @@ use Rattle.c_cells.specs.CellBytes.{packedCell, answerOf}
 use Rattle.c_cells.specs.CellsBytes.{roomNumber, cellsNumber}
 use Rattle.c_twin.specs.TwinBytes.{chainIn, powerNumber, stepNumber}
 use Rattle.promises.specs.ByNumber.{Row, row, NumberDue}
-use Rattle.promises.specs.CallRows.{room, commandRows, NoChain, powerOnRows, chainRows, stepRows, stepBytesRows, cellRows, cellIntoRows, cellsIntoRows}
+use Rattle.promises.specs.CallRows.{room, commandRows, NoChain, NoSpan, powerOnRows, chainRows, stepRows, spanRows, stepBytesRows, cellRows, cellIntoRows, cellsIntoRows}
 use Rattle.promises.proofs.RowsGiven.{bad-question, good-question}
 
 -- a test cannot have come out both ways
@@ -90,6 +90,26 @@ module _ (each n size : ℕ) where
       by-test true is e = inr (omega (arith, ltb-false device n e))
       by-test false is e = inl (is-no-chain is)
 
+  -- or with devices that must be of it
+  pub is-span-in : (from to : ℕ) → ((leb 1 n && leb n 32 && eqb size (each * n)) && leb from to && leb to n) ≡ true
+      → NoSpan each n from to size → ⊥
+  is-span-in from to fits =
+      let chain = leb 1 n && leb n 32 && eqb size (each * n) in
+      let begun = and-left (chain && leb from to) (leb to n) fits in
+      ⊎-elim (is-chain (and-left chain (leb from to) begun))
+      (⊎-elim (λ behind. omega (arith, leb-true from to (and-right chain (leb from to) begun)))
+      (λ beyond. omega (arith, leb-true to n (and-right (chain && leb from to) (leb to n) fits))))
+
+  pub is-no-span-in : (from to : ℕ) → ((leb 1 n && leb n 32 && eqb size (each * n)) && leb from to && leb to n) ≡ false
+      → NoSpan each n from to size
+  is-no-span-in from to = by-tests (leb 1 n && leb n 32 && eqb size (each * n)) refl (leb from to) refl
+    where
+      by-tests : (t : Bool) → (leb 1 n && leb n 32 && eqb size (each * n)) ≡ t → (begun : Bool) → leb from to ≡ begun
+          → (t && begun && leb to n) ≡ false → NoSpan each n from to size
+      by-tests false is begun b e = inl (is-no-chain is)
+      by-tests true is false b e = inr (inl (omega (arith, leb-false from to b)))
+      by-tests true is true b e = inr (inr (omega (arith, leb-false to n e)))
+
 pub powered-due : (n : ℕ) (memory : List ℕ) → NumberDue (powerOnRows 256 n (length memory)) (poweredNumber (poweredOf n memory))
 unfolding poweredOf
 powered-due n memory = by-test (isChain n (length memory)) refl
@@ -129,6 +149,13 @@ pub step-due : (n device : ℕ) (memory line out : List ℕ)
 step-due n device memory line out =
     stepped-due (NoChain 256 n (length memory) ⊎ (n ≤ device)) (isChain n (length memory) && ltb device n)
     (is-in-chain 256 n (length memory) device) (is-not-in-chain 256 n (length memory) device) line out
+
+pub span-due : (n from to : ℕ) (memory line out : List ℕ)
+    → NumberDue (spanRows n from to (length memory) (length out) (length line))
+    (steppedNumber (steppedOf (isSpan n from to (length memory)) line out))
+span-due n from to memory line out =
+    stepped-due (NoSpan 256 n from to (length memory)) (isSpan n from to (length memory))
+    (is-span-in 256 n (length memory) from to) (is-no-span-in 256 n (length memory) from to) line out
 
 pub step-bytes-due : (n device : ℕ) (memory line out : List ℕ)
     → NumberDue (stepBytesRows n device (length memory) (length out) (length line)) (stepNumber n device memory line out)

@@ -35,7 +35,7 @@ use Rattle.promises.specs.CallRows.{room, commandRows, powerOnRows, step
 use Rattle.promises.specs.Demand1.{TurnedAway, packedNumber, Answers, Demand1}
 use Rattle.promises.proofs.ByNumber.{Small, below-256}
 use Rattle.promises.proofs.Rows.{by-number}
-use Rattle.promises.proofs.CallsByNumber.{enough-room, short-of-room, command-due, powered-due, powered-bytes-due, chain-due, step-due}
+use Rattle.promises.proofs.CallsByNumber.{enough-room, short-of-room, command-due, powered-due, powered-bytes-due, chain-due, step-due, span-due}
 use Rattle.promises.proofs.CallsByNumber.{step-bytes-due, cell-due, cell-into-due, cells-into-due}
 use Rattle.promises.proofs.JobNumbers.{opened-by-number, next-by-number, printed-by-number}
 use Rattle.promises.proofs.JobNumbers.{certified-by-number, certificate-bytes-by-number, rehearsed-by-number}
@@ -131,6 +131,9 @@ demand-1 = record {
   step = λ n device memory line out.
       one (record { says = refl; remembers = refl; leaves = refl }) (λ after r done. (done .says, both (done .remembers, done .leaves)))
       (step-due n device memory line out) (λ after r done away. both (refused-step _ _ _ out (after .1) (after .0) r done away));
+  run-span = λ n from to memory line out.
+      one (record { says = refl; remembers = refl; leaves = refl }) (λ after r done. (done .says, both (done .remembers, done .leaves)))
+      (span-due n from to memory line out) (λ after r done away. both (refused-step _ _ _ out (after .1) (after .0) r done away));
   run-chain = λ n memory line out.
       one (record { says = refl; remembers = refl; leaves = refl }) (λ after r done. (done .says, both (done .remembers, done .leaves)))
       (chain-due n memory line out) (λ after r done away. both (refused-step _ _ _ out (after .1) (after .0) r done away));

@@ -35,7 +35,7 @@ module _ (q : Question) (n : ℕ) (memory : List ℕ) (to : PutTo q n memory) wh
       record {
         handed = says-handed start end out outAfter memoryLeft r _ done fits room;
         answer = end .line;
-        words = hops-length n n start;
+        words = hops-length n 0 n start;
         right = right-answer q (to .good) (to .sends) n chain (to .least) (to .most) memory (to .registers);
         stands = leaves-line start end out outAfter memoryLeft r _ done fits room;
         holds = subst (ChangedBy q n memory) (sym left)

@@ -40,6 +40,13 @@ chainRows n words lent line = row 15 (NoChain 256 n words) ∷ room lent line �
 abbrev pub stepRows : (n device words lent line : ℕ) → List Row
 stepRows n device words lent line = row 15 (NoChain 256 n words ⊎ (n ≤ device)) ∷ room lent line ∷ []
 
+-- or devices to be stepped, from .. to - 1, are not in the chain: their end is above the chain's, or below their beginning
+abbrev pub NoSpan : (each n from to size : ℕ) → Type 0
+NoSpan each n from to size = NoChain each n size ⊎ ((to < from) ⊎ (n < to))
+
+abbrev pub spanRows : (n from to words lent line : ℕ) → List Row
+spanRows n from to words lent line = row 15 (NoSpan 256 n from to words) ∷ room lent line ∷ []
+
 -- over bytes: whole words against whole words, then 3 LENGTH for an odd number of bytes
 abbrev pub stepBytesRows : (n device bytes lent line : ℕ) → List Row
 stepBytesRows n device bytes lent line =

@@ -26,7 +26,7 @@ use Rattle.cells.specs.declared.Register.{Register}
 use Rattle.cells.specs.declared.Cell.{Cell}
 use Rattle.cells.specs.declared.Cell.the-variants.{NotMeasured}
 use Rattle.registers.specs.Memory.{PoweredOn, poweredNumber}
-use Rattle.twin.specs.Step.{StepDone, ChainDone, steppedNumber}
+use Rattle.twin.specs.Step.{StepDone, SpanDone, ChainDone, steppedNumber}
 use Rattle.jobs.specs.declared.Header.{Header}
 use Rattle.jobs.specs.declared.Cursor.{Cursor}
 use Rattle.jobs.specs.Check.{openedOf, openedNumber, nextOf, nextNumber}
@@ -44,7 +44,7 @@ use Rattle.c_twin.specs.TwinBytes.{PowerBytesDone, StepBytesDone}
 use Rattle.bmc.specs.Exports.{CertificateBytesDone}
 use Rattle.promises.specs.ByNumber.{Row, NumberDue}
 use Rattle.promises.specs.Rows.{readRows}
-use Rattle.promises.specs.CallRows.{room, commandRows, powerOnRows, chainRows, stepRows, stepBytesRows}
+use Rattle.promises.specs.CallRows.{room, commandRows, powerOnRows, chainRows, stepRows, spanRows, stepBytesRows}
 use Rattle.promises.specs.CallRows.{openRows, nextRows, printRows, certifyRows, rehearseRows}
 use Rattle.promises.specs.CallRows.{cellRows, cellIntoRows, cellsIntoRows}
 
@@ -101,11 +101,14 @@ pub record Demand1 : Type 0 where
   pub read-cells : (range : Range) (mask : ℕ) (registers : List Register) → length (cellsOf range mask registers) ≡ length registers
   pub each-cell : (range : Range) (mask : ℕ) (registers : List Register) (k : ℕ) → k < length registers
       → Replies (cellRows mask (suc k) (getD registers k (record { 0 = 0 }) .0)) cellNumber (getD (cellsOf range mask registers) k NotMeasured)
-  -- the twin: a step and a chain are lent registers and an output
+  -- the twin: a step, a span of devices and a chain are lent registers and an output
   pub power-on : (n : ℕ) (memory : List ℕ) → Answers (powerOnRows 256 n (length memory)) poweredNumber memory (PoweredOn n memory)
   pub step : (n device : ℕ) (memory line out : List ℕ)
       → Answers {Memory = List ℕ × List ℕ} (stepRows n device (length memory) (length out) (length line)) steppedNumber (memory, out)
       (λ after. StepDone n device memory (after .0) line out (after .1))
+  pub run-span : (n from to : ℕ) (memory line out : List ℕ)
+      → Answers {Memory = List ℕ × List ℕ} (spanRows n from to (length memory) (length out) (length line)) steppedNumber (memory, out)
+      (λ after. SpanDone n from to memory (after .0) line out (after .1))
   pub run-chain : (n : ℕ) (memory line out : List ℕ)
       → Answers {Memory = List ℕ × List ℕ} (chainRows n (length memory) (length out) (length line)) steppedNumber (memory, out)
       (λ after. ChainDone n memory (after .0) line out (after .1))

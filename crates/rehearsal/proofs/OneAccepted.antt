@@ -74,7 +74,7 @@ module _ (h : Header) (e : Entry) (fits : Fits e) (memory : List ℕ) (c : Chain
         (record {
           least = c .least;
           most = c .most;
-          size = hops-memory n n (chainWith memory (commandLine q)) ∙ c .size;
+          size = hops-memory n 0 n (chainWith memory (commandLine q)) ∙ c .size;
           words = still-registers q good sends n (λ some. refl) (c .least) (c .most) memory (c .words) (c .size);
         })
 

@@ -57,7 +57,7 @@ module _ (q : Question) where
     where
       by-test : (t : Bool) → goodQuestion q ≡ t → length (sent n memory q .line) ≡ answerWords q
       by-test true good =
-          ap (λ (s : Chain). length (s .line)) (sent-good n memory q good) ∙ hops-length n n (chainWith memory (commandLine q)) ∙ sym (words-good good)
+          ap (λ (s : Chain). length (s .line)) (sent-good n memory q good) ∙ hops-length n 0 n (chainWith memory (commandLine q)) ∙ sym (words-good good)
       by-test false bad = ap (λ (s : Chain). length (s .line)) (sent-bad n memory q bad) ∙ sym (words-bad bad)
 
 -- ---- the call
@@ -95,7 +95,7 @@ module _ (n : ℕ) (q : Question) (memory : List ℕ) (blank : List ℕ) (size :
         words = issues .number ∙ sym (words-good q (issues .good));
         comes =
             ap (take words) (leaves-line start end line line′ memory′ stepped _ done′ chain enough)
-            ∙ take-at (end .line) (drop (length (end .line)) line) words (hops-length n n start ∙ sym (issues .number))
+            ∙ take-at (end .line) (drop (length (end .line)) line) words (hops-length n 0 n start ∙ sym (issues .number))
             ∙ sym (ap (λ (s : Chain). s .line) (sent-good n memory q (issues .good)));
         remembers =
             leaves-memory start end line line′ memory′ stepped _ done′ chain enough ∙ sym (ap (λ (s : Chain). s .memory) (sent-good n memory q (issues .good)));

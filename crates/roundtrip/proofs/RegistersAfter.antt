@@ -109,7 +109,7 @@ module _ (q : Question) (good : goodQuestion q ≡ true) (sends : Sendable q) (n
   pub still-registers : Registers (hops n n (chainWith memory (commandLine q)) .memory)
   still-registers i =
       let after = hops n n (chainWith memory (commandLine q)) .memory in
-      let wide : length after ≡ 256 * n = hops-memory n n (chainWith memory (commandLine q)) ∙ size in
+      let wide : length after ≡ 256 * n = hops-memory n 0 n (chainWith memory (commandLine q)) ∙ size in
       let k = i / 256 in
       let r = i % 256 in
       let there : 256 * k + r ≡ i = omega arith in

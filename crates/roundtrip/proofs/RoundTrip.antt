@@ -13,8 +13,9 @@ use Rattle.questions.proofs.Good.{good-kind}
 use Rattle.acceptance.specs.Answer.{Registers, Sendable, AnswerTo}
 use Rattle.passage.specs.Acting.{handedOn}
 use Rattle.passage.specs.Pass.{changeOf, changed}
-use Rattle.twin.specs.Step.{registersOf, chainWith, hops}
+use Rattle.twin.specs.Step.{registersOf, chainWith, hopsFrom, hops}
 use Rattle.twin.proofs.Registers.{hop-own}
+use Rattle.twin.proofs.Span.{next-of-chain}
 use Rattle.roundtrip.specs.Between.{lineBetween, broughtBack}
 use Rattle.roundtrip.proofs.NotStepped.{untouched, settled}
 use Rattle.roundtrip.proofs.NextLine.{changeFor}
@@ -26,11 +27,11 @@ module _ (q : Question) (good : goodQuestion q ≡ true) (sends : Sendable q) (n
     (memory : List ℕ) (words : Registers memory) where
   -- THE LINE BETWEEN: after m devices, the command as m devices leave it.
   pub line-between : (m : ℕ) → m ≤ n → hops n m (chainWith memory (commandLine q)) .line ≡ lineBetween q m memory
-  unfolding hops
+  unfolding hopsFrom
   line-between zero h = command-first q memory (good-kind q good)
   line-between (suc m) h =
-      let before = hops n m (chainWith memory (commandLine q)) in
-      ap₂ (handedOn n m) (line-between m (omega arith)) (untouched n (chainWith memory (commandLine q)) m m (le-refl m))
+      let s = chainWith memory (commandLine q) in
+      ap (λ x. x .line) (next-of-chain n s m) ∙ ap₂ (handedOn n m) (line-between m (omega arith)) (untouched n s m m (le-refl m))
       ∙ next q sends n memory words good chain most m h .hands
 
   -- THE ROUND TRIP: the command through all n devices is the right answer for the registers as they stand.
@@ -39,8 +40,7 @@ module _ (q : Question) (good : goodQuestion q ≡ true) (sends : Sendable q) (n
 
   -- and each device's registers are as the command asks of it
   pub registers-after : (k : ℕ) → k < n → registersOf (hops n n (chainWith memory (commandLine q)) .memory) k ≡ changed (registersOf memory k) (changeFor q sends n memory words k)
-  unfolding hops
   registers-after k h =
       let s = chainWith memory (commandLine q) in
-      settled n s n k h ∙ hop-own n k (hops n k s)
+      settled n s n k h ∙ ap (λ x. registersOf (x .memory) k) (next-of-chain n s k) ∙ hop-own n k (hops n k s)
       ∙ ap₂ changed (untouched n s k k (le-refl k)) (ap (changeOf n k) (line-between k (omega arith)) ∙ next q sends n memory words good chain most k h .changes)

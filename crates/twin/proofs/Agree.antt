@@ -3,6 +3,7 @@ use mathlib.Core.Path.{sym, _∙_}
 use denote.Ref.{now}
 use Rattle.ground.specs.Agree.{Settled, SettledIn}
 use Rattle.twin.proofs.step.step.Reads as step
+use Rattle.twin.proofs.step.run_span.Reads as run-span
 use Rattle.twin.proofs.step.run_chain.Reads as run-chain
 use Rattle.twin.proofs.step.stepped_number.Reads as stepped-number
 
@@ -15,6 +16,15 @@ step-settled-memory l given r r′ left left′ p q = p .remembers ∙ sym (q .r
 
 pub step-settled-out : SettledIn (λ l left. now (left .1 .1 .1 .1 .0)) step.Post
 step-settled-out l given r r′ left left′ p q = p .leaves ∙ sym (q .leaves)
+
+pub run-span-settled : Settled run-span.Post
+run-span-settled l given r r′ left left′ p q = p .says ∙ sym (q .says)
+
+pub run-span-settled-memory : SettledIn (λ l left. now (left .1 .1 .1 .0)) run-span.Post
+run-span-settled-memory l given r r′ left left′ p q = p .remembers ∙ sym (q .remembers)
+
+pub run-span-settled-out : SettledIn (λ l left. now (left .1 .1 .1 .1 .1 .0)) run-span.Post
+run-span-settled-out l given r r′ left left′ p q = p .leaves ∙ sym (q .leaves)
 
 pub run-chain-settled : Settled run-chain.Post
 run-chain-settled l given r r′ left left′ p q = p .says ∙ sym (q .says)

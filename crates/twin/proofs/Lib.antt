@@ -1,3 +1,4 @@
 pub mod Stepping
+pub mod Span
 pub mod Registers
 pub mod Agree

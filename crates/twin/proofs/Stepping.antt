@@ -15,7 +15,7 @@ use Rattle.passage.specs.declared.pass.Change.the-variants.{Nothing, Store}
 use Rattle.passage.proofs.ActedLength.{long-unacted}
 use Rattle.passage.proofs.EqualLength.{length-handed}
 use Rattle.passage.proofs.Passing.{left-unchanged, nothing-stored}
-use Rattle.twin.specs.Step.{registersOf, withChange, Chain, chainWith, hop, hops, Hopped, steppedOf, steppedNumber, Done}
+use Rattle.twin.specs.Step.{registersOf, withChange, Chain, chainWith, hop, hopsFrom, Hopped, steppedOf, steppedNumber, Done}
 use Rattle.twin.specs.declared.step.Stepped.{Stepped}
 use Rattle.twin.specs.declared.step.Stepped.the-variants.{Handed, Twin, Room}
 
@@ -97,18 +97,27 @@ hop-long n k s long = hop-unacted n k s (long-unacted n k (s .line) long)
 pub hop-length : (n k : ℕ) (s : Chain) → length (hop n k s .line) ≡ length (s .line)
 hop-length n k s = length-handed n k (s .line) (registersOf (s .memory) k)
 
-pub hops-length : (n m : ℕ) (s : Chain) → length (hops n m s .line) ≡ length (s .line)
-unfolding hops
-hops-length n zero s = refl
-hops-length n (suc m) s = hop-length n m (hops n m s) ∙ hops-length n m s
+-- what both ways of a test have
+either : (P : Chain → Type 0) (t : Bool) (x y : Chain) → P x → P y → P (cond t x y)
+either P true x y p q = p
+either P false x y p q = q
+
+pub hops-length : (n from to : ℕ) (s : Chain) → length (hopsFrom n from to s .line) ≡ length (s .line)
+unfolding hopsFrom
+hops-length n from zero s = refl
+hops-length n from (suc k) s =
+    let before = hopsFrom n from k s in
+    either (λ (x : Chain). length (x .line) ≡ length (s .line)) (leb from k) (hop n k before) s (hop-length n k before ∙ hops-length n from k s) refl
 
 -- and no device changes how many registers there are
 with-change-length : (memory : List ℕ) (k : ℕ) (c : Change) → length (withChange memory k c) ≡ length memory
 with-change-length memory k Nothing = refl
 with-change-length memory k (Store r v) = length-set memory (256 * k + r) v
 
-pub hops-memory : (n m : ℕ) (s : Chain) → length (hops n m s .memory) ≡ length (s .memory)
-unfolding hops
-hops-memory n zero s = refl
-hops-memory n (suc m) s =
-    with-change-length (hops n m s .memory) m (changeOf n m (hops n m s .line)) ∙ hops-memory n m s
+pub hops-memory : (n from to : ℕ) (s : Chain) → length (hopsFrom n from to s .memory) ≡ length (s .memory)
+unfolding hopsFrom
+hops-memory n from zero s = refl
+hops-memory n from (suc k) s =
+    let before = hopsFrom n from k s in
+    either (λ (x : Chain). length (x .memory) ≡ length (s .memory)) (leb from k) (hop n k before) s
+    (with-change-length (before .memory) k (changeOf n k (before .line)) ∙ hops-memory n from k s) refl

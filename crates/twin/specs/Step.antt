@@ -1,4 +1,4 @@
--- One device of a chain stepped, and the whole chain (document 01, "The twin" and row 15).
+-- One device of a chain stepped, those from one place to another, and the whole chain (document 01, "The twin" and row 15).
 use mathlib.Core.Path.{_≡_}
 use mathlib.Core.Bool.{Bool, cond, _&&_}
 use mathlib.Core.List.{List, _++_}
@@ -40,10 +40,18 @@ pub record Hopped (n k words : ℕ) (memory memoryLeft out outAfter : List ℕ) 
   pub remembers : memoryLeft ≡ hop n k (chainWith memory (take words out)) .memory
   pub leaves : outAfter ≡ hop n k (chainWith memory (take words out)) .line ++ drop words out
 
--- the first m devices of n, in address order
-unfoldable pub hops : (n m : ℕ) → Chain → Chain
-hops n zero s = s
-hops n (suc m) s = hop n m (hops n m s)
+-- the devices of n from `from` on that stand before `to`, in address order
+unfoldable pub hopsFrom : (n from to : ℕ) → Chain → Chain
+hopsFrom n from zero s = s
+hopsFrom n from (suc k) s = cond (leb from k) (hop n k (hopsFrom n from k s)) s
+
+-- the first m devices of n
+abbrev pub hops : (n m : ℕ) → Chain → Chain
+hops n m s = hopsFrom n 0 m s
+
+-- devices from .. to - 1 of a chain: row 15, and to is neither below from nor above n; where from is to, none of the devices
+abbrev pub isSpan : (n from to words : ℕ) → Bool
+isSpan n from to words = isChain n words && leb from to && leb to n
 
 -- the answer: TWIN is checked before ROOM
 unfoldable pub steppedOf : (fits : Bool) (line out : List ℕ) → Stepped
@@ -65,6 +73,11 @@ pub record Done (fits : Bool) (before after : Chain) (out outAfter memoryLeft : 
 abbrev pub StepDone : (n k : ℕ) (memory memoryLeft line out outAfter : List ℕ) (r : Stepped) → Type 0
 StepDone n k memory memoryLeft line out outAfter r =
     Done (isChain n (length memory) && ltb k n) (chainWith memory line) (hop n k (chainWith memory line)) out outAfter memoryLeft r
+
+-- `run_span`: devices from .. to - 1 once each; none of them, and the line is handed on as it came
+abbrev pub SpanDone : (n from to : ℕ) (memory memoryLeft line out outAfter : List ℕ) (r : Stepped) → Type 0
+SpanDone n from to memory memoryLeft line out outAfter r =
+    Done (isSpan n from to (length memory)) (chainWith memory line) (hopsFrom n from to (chainWith memory line)) out outAfter memoryLeft r
 
 -- `run_chain`: every device once
 abbrev pub ChainDone : (n : ℕ) (memory memoryLeft line out outAfter : List ℕ) (r : Stepped) → Type 0

@@ -6,7 +6,7 @@ ghost use mathlib.Core.Path.{_≡_};
 ghost use Prim.Native.Nat.{_+_, _*_, _≤_, _<_};
 ghost use lib.ListN.{length};
 ghost use Rattle.lines.specs.Write.{atFront};
-ghost use Rattle.twin.specs.Step.{withChange, Hopped, StepDone, ChainDone, steppedNumber};
+ghost use Rattle.twin.specs.Step.{withChange, Hopped, isSpan, StepDone, SpanDone, ChainDone, steppedNumber};
 
 // The line was handed on, or which row turned the call away.
 pub enum Stepped {
@@ -68,23 +68,50 @@ pub fn step(n: u8, device: u8, memory: &mut [u16], line: &[u16], out: &mut [u16]
     Stepped::Handed
 }
 
-// Every device of the chain once, in address order.
-pub fn run_chain(n: u8, memory: &mut [u16], line: &[u16], out: &mut [u16]) -> Stepped
-    ensures { λ r. ⌜ ChainDone n (now (memory .entry)) (now (memory .exit)) (now (line .entry)) (now (out .entry)) (now (out .exit)) r ⌝ }
+// Whether this is a chain, and devices from .. to - 1 are of it: all of them, some, or none.
+fn is_span(n: u8, from: u8, to: u8, words: usize) -> bool
+    ensures { λ r. ⌜ r ≡ isSpan n from to words ⌝ }
 {
-    if !is_chain(n, memory.len()) {
+    if !is_chain(n, words) {
+        return false;
+    }
+    if to < from {
+        return false;
+    }
+    to <= n
+}
+
+// The devices from one place of the chain to another, to - 1 the last, once each in address order. Turned away, nothing is written.
+pub fn run_span(
+    n: u8,
+    from: u8,
+    to: u8,
+    memory: &mut [u16],
+    line: &[u16],
+    out: &mut [u16],
+) -> Stepped
+    ensures { λ r. ⌜ SpanDone n from to (now (memory .entry)) (now (memory .exit)) (now (line .entry)) (now (out .entry)) (now (out .exit)) r ⌝ }
+{
+    if !is_span(n, from, to, memory.len()) {
         return Stepped::Twin;
     }
     if out.len() < line.len() {
         return Stepped::Room;
     }
     copy(line, out);
-    let mut device: u8 = 0;
-    while device < n {
+    let mut device: u8 = from;
+    while device < to {
         hop(n, device, memory, line.len(), out);
         device += 1;
     }
     Stepped::Handed
+}
+
+// Every device of the chain once, in address order.
+pub fn run_chain(n: u8, memory: &mut [u16], line: &[u16], out: &mut [u16]) -> Stepped
+    ensures { λ r. ⌜ ChainDone n (now (memory .entry)) (now (memory .exit)) (now (line .entry)) (now (out .entry)) (now (out .exit)) r ⌝ }
+{
+    run_span(n, 0, n, memory, line, out)
 }
 
 // Document 01's number of an answer: 0 where the line was handed on.
