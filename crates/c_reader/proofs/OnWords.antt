@@ -14,19 +14,20 @@ use borrow.Author.Tests.{ne-eqb}
 use Rattle.lines.specs.Line.{bytesOf}
 use Rattle.lines.specs.Write.{atFront}
 use Rattle.packing.specs.Words.{asBytes, lineOn, lineIn}
-use Rattle.packing.proofs.Taken.{whole-or-none, taken-most, packed-front}
+use Rattle.packing.proofs.Taken.{whole-or-none, packed-front}
 use Rattle.questions.proofs.Good.{words-most, words-least}
 use Rattle.questions.specs.Question.{goodQuestion}
 use Rattle.questions.specs.Shape.{shapeOf}
 use Rattle.questions.specs.declared.question.Question as asked
-use Rattle.readings.specs.Reading.{placeOf, valuesTaken}
+use Rattle.readings.specs.Reading.{valuesTaken}
+use Rattle.readings.specs.Packed.{packedReading}
 use Rattle.readings.specs.declared.Reading.{Reading}
 use Rattle.judging.specs.Judge.{screenRows, rowsOf, judgeOf}
 use Rattle.judging.proofs.Accepted.{values-fit, some-values}
-use Rattle.judging.proofs.Bounds.{place-within, room-enough}
+use Rattle.judging.proofs.Bounds.{room-enough}
 use Rattle.reader.specs.Read.{valuesOn, ReadDone}
 use Rattle.reader.proofs.Values.{handed-number}
-use Rattle.c_reader.specs.ReadBytes.{readingOn, packedReading, Packable, ReadBytesDone}
+use Rattle.c_reader.specs.ReadBytes.{readingOn, ReadBytesDone}
 
 -- ---- a line of another length
 
@@ -92,15 +93,6 @@ module _ (q : asked.Question) (line out : List ℕ) (room : ℕ) (is-room : room
   few-values =
       let fit = values-fit q taken-line (length blank) in
       omega (arith, ap valuesTaken (done .says), fit .1)
-
-  pub fits : Packable reading
-  fits = record {
-    place = omega (arith, ap placeOf (done .says), place-within q taken-line (length blank), ap length is-line, line-short);
-    values = omega (arith, few-values);
-  }
-    where
-      line-short : length (lineIn 140 line) ≤ 140
-      line-short = taken-most 140 line
 
   pub read-done : (rest out′ : List ℕ) (r : ℕ) → length part ≡ length blank
       → out′ ≡ sets out 0 (asBytes (take (length out / 2) (take (valuesTaken reading) (part ++ rest)))) → r ≡ packedReading reading

@@ -4,15 +4,11 @@ use packing::pack;
 use packing::take_line;
 use questions::question::Question;
 use reader::read::read;
-use readings::Reading;
-use readings::byte_of;
-use readings::count_of;
-use readings::number_of;
-use readings::place_of;
+use readings::packed_reading;
 use readings::values_taken;
 ghost use mathlib.Core.Path.{_≡_};
 ghost use Prim.Native.Nat.{_/_, min};
-ghost use Rattle.c_reader.specs.ReadBytes.{packedReading, Packable, ReadBytesDone};
+ghost use Rattle.c_reader.specs.ReadBytes.{ReadBytesDone};
 
 // Takes an answer or turns it away. A read's values go to the front of the lent bytes; turned away, no byte is written.
 pub fn read_bytes(q: Question, line: &[u8], out: &mut [u8]) -> u32
@@ -34,14 +30,4 @@ fn room_in(bytes: usize) -> usize
 {
     let values = bytes / 2;
     if values < 32 { values } else { 32 }
-}
-
-// Bits 0 to 7 the number; bits 8 to 15 the byte, or the count; bits 16 to 31 the place, or how many values were written.
-fn packed_reading(reading: Reading) -> u32
-    requires { ⌜ Packable reading ⌝ }
-    ensures { λ r. ⌜ r ≡ packedReading reading ⌝ }
-{
-    let byte = byte_of(reading) as u32 + count_of(reading) as u32;
-    let place = place_of(reading) as u32 + values_taken(reading) as u32;
-    number_of(reading) as u32 + 256 * byte + 65536 * place
 }

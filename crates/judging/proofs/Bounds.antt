@@ -1,4 +1,4 @@
--- Bounds of what the rows say: a place lies on the line, and room for 32 values is room enough.
+-- Bounds of what the rows say: a place lies on a line of 140 words at most, and room for 32 values is room enough.
 use mathlib.Core.Path.{_≡_, refl, sym, _∙_}
 use mathlib.Core.Bool.{Bool, true, false}
 use mathlib.Core.List.{List}
@@ -7,7 +7,7 @@ use native.Mathlib.Nat.{le-refl}
 use native.Mathlib.Omega.{arith}
 use lib.Dec.{eqb, leb}
 use lib.ListN.{length}
-use borrow.Author.Tests.{leb-true, le-leb, leb-false, lt-leb}
+use borrow.Author.Tests.{leb-true, le-leb, leb-false, lt-leb, eqb-true}
 use Rattle.lines.specs.Line.{bytesOf}
 use Rattle.scanning.specs.Place.{firstNoCharacter, firstNoNibble}
 use Rattle.scanning.specs.Frame.{framed}
@@ -17,7 +17,7 @@ use Rattle.scanning.proofs.FirstPlace.{at-first}
 use Rattle.questions.specs.Question.{goodQuestion}
 use Rattle.questions.specs.Shape.{shapeOf}
 use Rattle.questions.specs.declared.question.Question as asked
-use Rattle.questions.proofs.Good.{good-values}
+use Rattle.questions.proofs.Good.{good-values, words-most}
 use Rattle.readings.specs.Reading.{refusalPlace, placeOf}
 use Rattle.readings.specs.FirstFault.{givenUnless, said}
 use Rattle.readings.specs.declared.Refusal.{Refusal}
@@ -41,7 +41,7 @@ nibble-place : (line : List ℕ) (i : ℕ) → firstNoNibble line ≡ At i → i
 unfolding firstNoNibble
 nibble-place line i e = omega (arith, at-first _ line 1 (length line - 2) i e .below)
 
-pub place-within : (q : asked.Question) (line : List ℕ) (room : ℕ) → placeOf (judgeOf q line room) ≤ length line
+place-within : (q : asked.Question) (line : List ℕ) (room : ℕ) → placeOf (judgeOf q line room) ≤ length line
 unfolding judgeOf rowsOf screenRows byteRows
 place-within q line room =
     first-of-each Within pass (rowsOf q line room)
@@ -74,6 +74,23 @@ place-within q line room =
     at : (why : ℕ → Refusal) (p : Place) → ((i : ℕ) → p ≡ At i → refusalPlace (why i) ≤ length line) → Within (givenAt why p)
     at why (At i) row = row i refl
     at why Nowhere row = pass
+
+-- and LENGTH comes first, so that it lies on a line of 140 words at most, whatever line was lent
+pub place-most : (q : asked.Question) (line : List ℕ) (room : ℕ) → placeOf (judgeOf q line room) ≤ 140
+unfolding judgeOf rowsOf screenRows
+place-most q line room =
+    by-tests (goodQuestion q) (leb (shapeOf q .values) room) (eqb (length line) (shapeOf q .words)) refl refl refl
+  where
+    placeless : placeOf (judgeOf q line room) ≡ 0 → placeOf (judgeOf q line room) ≤ 140
+    placeless e = omega arith
+
+    by-tests : (t u v : Bool) → goodQuestion q ≡ t → leb (shapeOf q .values) room ≡ u → eqb (length line) (shapeOf q .words) ≡ v
+        → placeOf (judgeOf q line room) ≤ 140
+    by-tests false u v bad space long = placeless (simp bad)
+    by-tests true false v good short long = placeless (simp (good, short))
+    by-tests true true false good enough other = placeless (simp (good, enough, other))
+    by-tests true true true good enough same =
+        omega (arith, place-within q line room, eqb-true (length line) (shapeOf q .words) same, words-most q good)
 
 -- ---- room
 

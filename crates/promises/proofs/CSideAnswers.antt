@@ -17,13 +17,14 @@ use Rattle.questions.specs.Bytes.{answerBytes}
 use Rattle.questions.specs.declared.question.Question.{Question}
 use Rattle.questions.proofs.Good.{words-least}
 use Rattle.readings.specs.Reading.{numberOf, valuesTaken}
+use Rattle.readings.specs.Packed.{packedReading}
 use Rattle.judging.specs.Judge.{judgeOf}
 use Rattle.judging.proofs.Accepted.{accepted-takes}
 use Rattle.reader.specs.Read.{valuesOn}
 use Rattle.acceptance.specs.Answer.{Sendable, readingOf}
 use Rattle.acceptance.proofs.AcceptedIsAnAnswer.{accepted-is-an-answer}
 use Rattle.acceptance.proofs.AnswerIsAccepted.{answer-is-accepted, accepted-reading}
-use Rattle.c_reader.specs.ReadBytes.{readingOn, packedReading, ReadBytesDone}
+use Rattle.c_reader.specs.ReadBytes.{readingOn, ReadBytesDone}
 use Rattle.promises.specs.Demand1.{packedNumber}
 use Rattle.promises.specs.CSide.{Numbers, askedBy}
 use Rattle.promises.specs.CSideAnswers.{AnswerBytesDue, WithBytes, CSideAnswers}

@@ -12,15 +12,17 @@ use Rattle.packing.proofs.Back.{length-bytes, length-words, bytes-back, words-w
 use Rattle.questions.specs.Shape.{shapeOf}
 use Rattle.questions.specs.Bytes.{answerBytes}
 use Rattle.questions.specs.declared.question.Question.{Question}
+use Rattle.questions.proofs.Good.{good-values}
 use Rattle.questions.proofs.ByKind.{of-read}
 use Rattle.readings.specs.Reading.{numberOf, valuesTaken}
+use Rattle.readings.specs.Packed.{packedReading}
 use Rattle.readings.specs.declared.Reading.{Reading}
 use Rattle.readings.specs.declared.Reading.the-variants.{Values}
 use Rattle.judging.specs.Judge.{judgeOf}
 use Rattle.reader.specs.Read.{valuesOn, ReadDone}
 use Rattle.acceptance.specs.Answer.{readingOf}
 use Rattle.acceptance.specs.Answer.Fitting.{read}
-use Rattle.c_reader.specs.ReadBytes.{readingOn, packedReading, ReadBytesDone}
+use Rattle.c_reader.specs.ReadBytes.{readingOn, ReadBytesDone}
 use Rattle.promises.specs.Demand1.{TurnedAway, packedNumber}
 use Rattle.promises.specs.Demand3.{ReadsAll, answerLine, Damage}
 use Rattle.promises.specs.CSide.{askedBy, upperHalf}
@@ -47,7 +49,7 @@ module _ (q : Question) (values : List ℕ) (all : ReadsAll q values) where
       let reading : readingOf q values ≡ Values (shapeOf q .values) = of-read (q .kind) _ _ _ reads in
       let packed : r ≡ packedReading (Values (shapeOf q .values)) = is .1 .reading ∙ ap packedReading reading in (
         is .0,
-        omega (arith, packed, wanted),
+        omega (arith, packed, wanted, good-values q (all .asks .good)),
         is .1 .output ∙ ap (λ (l : List ℕ). atFront (asBytes l) before) (of-read (q .kind) _ _ _ reads),
       )
 

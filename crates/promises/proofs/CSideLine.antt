@@ -9,12 +9,12 @@ use borrow.Author.Tests.{eq-eqb}
 use Rattle.packing.specs.Words.{wordsOf, asBytes, lineOn}
 use Rattle.packing.proofs.Back.{length-bytes, words-back}
 use Rattle.readings.specs.Reading.{refusalNumber, numberOf}
+use Rattle.readings.specs.Packed.{packedReading}
 use Rattle.readings.specs.declared.Refusal.{Refusal}
 use Rattle.readings.specs.declared.Refusal.the-variants.{Question, Room, Length, Character, Frame, Manchester, Echo, Pec, Alive, Check, Count}
 use Rattle.readings.specs.declared.Reading.{Reading}
 use Rattle.readings.specs.declared.Reading.the-variants.{Counted, Written, Values, Refused}
 use Rattle.acceptance.specs.Answer.{Registers}
-use Rattle.c_reader.specs.ReadBytes.{packedReading}
 use Rattle.promises.specs.Demand1.{packedNumber}
 
 -- rows 1 to 11

@@ -1,4 +1,5 @@
--- A packed reading is taken apart: its byte or count is below 256, so no part runs over into the next.
+-- A packed reading is taken apart: its byte or count is below 256, its place or number of values below 65,536, so no part runs over into the next
+-- and none is cut short.
 use mathlib.Core.Path.{_≡_, refl, sym, ap, _∙_, subst}
 use mathlib.Core.List.{List}
 use Prim.Native.Nat.{ℕ, _+_, _*_, _/_, _%_, _≤_, _<_}
@@ -7,10 +8,13 @@ use lib.ListN.{length}
 use Rattle.packing.specs.Words.{lineOn}
 use Rattle.questions.specs.declared.question.Question.{Question}
 use Rattle.readings.specs.Reading.{numberOf, placeOf, byteOf, countOf, valuesTaken}
+use Rattle.readings.specs.Packed.{packedReading}
 use Rattle.readings.specs.declared.Reading.{Reading}
 use Rattle.readings.specs.declared.Reading.the-variants.{Counted, Written, Values, Refused}
+use Rattle.judging.proofs.Accepted.{values-fit}
+use Rattle.judging.proofs.Bounds.{place-most}
 use Rattle.judging.proofs.SmallBytes.{carriedByte, small-byte}
-use Rattle.c_reader.specs.ReadBytes.{readingOn, packedReading}
+use Rattle.c_reader.specs.ReadBytes.{readingOn}
 use Rattle.promises.specs.Demand1.{packedNumber}
 use Rattle.promises.specs.CSide.{askedBy, middleByte, upperHalf}
 use Rattle.promises.specs.CSidePacked.{TakenApart, CSidePacked}
@@ -29,9 +33,17 @@ parts a b c ha hb =
     let low : (b + 256 * c) % 256 ≡ b = omega arith in
     record { lowest = omega arith; middle = ap (λ (x : ℕ). x % 256) above ∙ low; upper = omega arith }
 
-module _ (reading : Reading) (small : carriedByte reading < 256) (row : numberOf reading < 256) where
+-- what must hold of a reading so that nothing of it is lost
+record Whole (reading : Reading) : Type 0 where
+  byte : carriedByte reading < 256
+  upper : placeOf reading + valuesTaken reading < 65536
+
+module _ (reading : Reading) (whole : Whole reading) (row : numberOf reading < 256) where
   packed : Parts (numberOf reading) (carriedByte reading) (placeOf reading + valuesTaken reading) (packedReading reading)
-  packed = parts (numberOf reading) (carriedByte reading) (placeOf reading + valuesTaken reading) row small
+  packed =
+      let uncut : (placeOf reading + valuesTaken reading) % 65536 ≡ placeOf reading + valuesTaken reading = omega (arith, whole .upper) in
+      subst (λ (x : ℕ). Parts (numberOf reading) (carriedByte reading) x (packedReading reading)) uncut
+      (parts (numberOf reading) (carriedByte reading) ((placeOf reading + valuesTaken reading) % 65536) row (whole .byte))
 
   accepted : numberOf reading ≡ 0 → byteOf reading ≡ 0 → placeOf reading ≡ 0 → TakenApart (packedReading reading) reading
   accepted none no-byte no-place = record {
@@ -51,20 +63,25 @@ module _ (reading : Reading) (small : carriedByte reading < 256) (row : numberOf
     values = λ none. absurd (omega (arith, packed .lowest));
   }
 
-pub apart : (reading : Reading) → carriedByte reading < 256 → TakenApart (packedReading reading) reading
-apart (Counted n) small = accepted (Counted n) small (omega arith) refl refl refl
-apart Written small = accepted Written small (omega arith) refl refl refl
-apart (Values m) small = accepted (Values m) small (omega arith) refl refl refl
-apart (Refused why) small = let row = row-number why in turned-away (Refused why) small (omega (arith, row .1)) (row .0) refl refl
+apart : (reading : Reading) → Whole reading → TakenApart (packedReading reading) reading
+apart (Counted n) whole = accepted (Counted n) whole (omega arith) refl refl refl
+apart Written whole = accepted Written whole (omega arith) refl refl refl
+apart (Values m) whole = accepted (Values m) whole (omega arith) refl refl refl
+apart (Refused why) whole = let row = row-number why in turned-away (Refused why) whole (omega (arith, row .1)) (row .0) refl refl
 
-pub small-reading : (q : Question) (line before : List ℕ) → carriedByte (readingOn q line before) < 256
+whole-reading : (q : Question) (line before : List ℕ) → Whole (readingOn q line before)
 unfolding readingOn
-small-reading q line before = small-byte q (lineOn line) (length before / 2)
+whole-reading q line before =
+    let room = length before / 2 in
+    record {
+      byte = small-byte q (lineOn line) room;
+      upper = omega (arith, place-most q (lineOn line) room, values-fit q (lineOn line) room .0);
+    }
 
 pub c-side-packed : CSidePacked
 unfolding readingOn
 c-side-packed c line before after r done =
     let reading = readingOn (askedBy c) line before in (
-      subst (λ (x : ℕ). TakenApart x reading) (sym (done .says)) (apart reading (small-reading (askedBy c) line before)),
+      subst (λ (x : ℕ). TakenApart x reading) (sym (done .says)) (apart reading (whole-reading (askedBy c) line before)),
       λ why is. carried (askedBy c) (lineOn line) (length before / 2) why is,
     )

@@ -16,6 +16,7 @@ use Rattle.writing.specs.declared.Put.{Put}
 use Rattle.writing.specs.declared.Put.the-variants as put
 use Rattle.questions.specs.declared.question.Question.{Question}
 use Rattle.readings.specs.Reading.{numberOf}
+use Rattle.readings.specs.Packed.{packedReading}
 use Rattle.commands.specs.Command.{issuedOf, issuedNumber}
 use Rattle.commands.specs.declared.Issued.{Issued}
 use Rattle.commands.specs.declared.Issued.the-variants as issued
@@ -24,7 +25,7 @@ use Rattle.cells.specs.declared.Range.{Range}
 use Rattle.cells.specs.declared.Register.{Register}
 use Rattle.cells.specs.declared.Cell.{Cell}
 use Rattle.cells.specs.declared.Cell.the-variants.{NotMeasured}
-use Rattle.c_reader.specs.ReadBytes.{readingOn, packedReading}
+use Rattle.c_reader.specs.ReadBytes.{readingOn}
 use Rattle.c_commands.specs.CommandBytes.{packedIssued}
 use Rattle.c_twin.specs.TwinBytes.{powerNumber, stepNumber}
 use Rattle.c_cells.specs.CellsBytes.{cellsNumber}
@@ -43,7 +44,7 @@ use Rattle.promises.proofs.RefusedWritesNothing.{refused-read, refused-
 use Rattle.promises.proofs.RefusedWritesNothing.{refused-print, refused-certificate, refused-rehearsal}
 use Rattle.promises.proofs.RefusedBytes.{refused-read-bytes, refused-command-bytes, refused-cell, refused-cells}
 use Rattle.promises.proofs.RefusedBytes.{refused-power-bytes, refused-step-bytes, refused-certificate-bytes}
-use Rattle.promises.proofs.CSidePacked.{apart, small-reading}
+use Rattle.promises.proofs.CSideLine.{number-packed}
 use Rattle.promises.proofs.OwnCell.{own-cell}
 
 -- a contract that names the answer and what is left has one answer
@@ -94,7 +95,7 @@ read-bytes-due : (q : Question) (line out : List ℕ)
     → NumberDue (readRows q (lineOn line) (length out / 2)) (packedNumber (packedReading (readingOn q line out)))
 unfolding readingOn
 read-bytes-due q line out =
-    subst (NumberDue (readRows q (lineOn line) (length out / 2))) (sym (apart (readingOn q line out) (small-reading q line out) .number))
+    subst (NumberDue (readRows q (lineOn line) (length out / 2))) (sym (number-packed (readingOn q line out)))
     (by-number q (lineOn line) (length out / 2))
 
 command-bytes-due : (q : Question) (lent : ℕ) → NumberDue (commandRows q lent) (packedNumber (packedIssued (issuedOf q lent)))

@@ -14,6 +14,7 @@ use Rattle.lines.proofs.LeftBy.{left-as-it-was}
 use Rattle.packing.specs.Words.{asBytes, lineOn}
 use Rattle.questions.specs.declared.question.Question as asked
 use Rattle.readings.specs.Reading.{valuesTaken}
+use Rattle.readings.specs.Packed.{packedReading}
 use Rattle.readings.specs.declared.Reading.{Reading}
 use Rattle.readings.specs.declared.Reading.the-variants.{Counted, Written, Values, Refused}
 use Rattle.reader.specs.Read.{valuesOn}
@@ -27,7 +28,7 @@ use Rattle.cells.specs.declared.Range.{Range}
 use Rattle.cells.specs.declared.Range.the-variants.{Unipolar, Bipolar}
 use Rattle.cells.specs.declared.Cell.{Cell}
 use Rattle.cells.specs.declared.Cell.the-variants as cell
-use Rattle.c_reader.specs.ReadBytes.{readingOn, packedReading, ReadBytesDone}
+use Rattle.c_reader.specs.ReadBytes.{readingOn, ReadBytesDone}
 use Rattle.c_commands.specs.CommandBytes.{CommandBytesDone}
 use Rattle.c_cells.specs.CellBytes.{packedCell, microvoltsOr, voltsOr, answerOf, microvoltsLeft, voltsLeft, CellDone}
 use Rattle.c_cells.specs.CellsBytes.{cellsNumber, cellsRead, byCell, packedOr, CellsDone}

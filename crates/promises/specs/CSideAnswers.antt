@@ -16,7 +16,8 @@ use Rattle.questions.specs.Shape.{shapeOf}
 use Rattle.questions.specs.Bytes.{answerBytes}
 use Rattle.questions.specs.declared.question.Question.{Question}
 use Rattle.acceptance.specs.Answer.{Fitting, readingOf, handedOut}
-use Rattle.c_reader.specs.ReadBytes.{packedReading, ReadBytesDone}
+use Rattle.readings.specs.Packed.{packedReading}
+use Rattle.c_reader.specs.ReadBytes.{ReadBytesDone}
 use Rattle.promises.specs.Demand1.{packedNumber}
 use Rattle.promises.specs.CSide.{Numbers, askedBy}
 

@@ -6,6 +6,7 @@ use Rattle.readings.proofs.place_of.Reads as place-of
 use Rattle.readings.proofs.byte_of.Reads as byte-of
 use Rattle.readings.proofs.count_of.Reads as count-of
 use Rattle.readings.proofs.values_taken.Reads as values-taken
+use Rattle.readings.proofs.packed_reading.Reads as packed-reading
 
 pub number-of-settled : Settled number-of.Post
 number-of-settled l given r r′ left left′ p q = p ∙ sym q
@@ -21,3 +22,6 @@ count-of-settled l given r r′ left left′ p q = p ∙ sym q
 
 pub values-taken-settled : Settled values-taken.Post
 values-taken-settled l given r r′ left left′ p q = p ∙ sym q
+
+pub packed-reading-settled : Settled packed-reading.Post
+packed-reading-settled l given r r′ left left′ p q = p ∙ sym q

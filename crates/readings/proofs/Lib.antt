@@ -1,3 +1,4 @@
 pub mod Others
 pub mod FirstFault
+mod Packed
 pub mod Agree

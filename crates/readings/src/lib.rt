@@ -1,6 +1,7 @@
 // What the reader says, in the words of document 01's table "Turned away".
 ghost use mathlib.Core.Path.{_≡_};
 ghost use Rattle.readings.specs.Reading.{refusalNumber, refusalPlace, refusalByte, numberOf, placeOf, byteOf, countOf, valuesTaken};
+ghost use Rattle.readings.specs.Packed.{packedReading};
 
 // Rows 1 to 11, in their order; a place or a byte where the row has one.
 pub enum Refusal {
@@ -120,4 +121,16 @@ pub fn values_taken(reading: Reading) -> usize
         Reading::Values(m) => m,
         _ => 0,
     }
+}
+
+// A reading as one number: bits 0 to 7 the number; bits 8 to 15 the byte, or the count; bits 16 to 31 the place, or how many values were written.
+pub fn packed_reading(reading: Reading) -> u32
+    ensures { λ r. ⌜ r ≡ packedReading reading ⌝ }
+{
+    let byte = byte_of(reading);
+    let count = count_of(reading);
+    let place = place_of(reading);
+    let values = values_taken(reading);
+    let upper = (place + values) % 65536;
+    number_of(reading) as u32 + 256 * (byte as u32 + count as u32) + 65536 * upper as u32
 }

@@ -7,7 +7,7 @@ use lib.ListN.{length, take, drop, replicate, length-append, length-drop, length
 use lib.Seq.{sets, length-take-le}
 use Rattle.packing.specs.Words.{asBytes, lineIn}
 use Rattle.packing.proofs.Taken.{taken-most, line-front}
-use Rattle.c_reader.proofs.OnWords.{few-values, fits, read-done}
+use Rattle.c_reader.proofs.OnWords.{few-values, read-done}
 use borrow.Author.Needs.{needs}
 use Rattle.c_reader.proofs.read_bytes.Statement.{statement}
 use Rattle.c_reader.proofs.read_bytes.Tie as tie
@@ -67,14 +67,7 @@ pack-requires : tie.Need-pack-requires
 pack-requires c κs = search needs
 
 packed-reading-requires : tie.Need-packed-reading-requires
-packed-reading-requires c κs =
-    let a = c .before .before .before .before .before .before .before .before .before .before .before .before .before .before .before .before .args in
-    let room = c .before .before .before .before .before .before .before .before .before .before .room-in .result in
-    let values = (replicate {A = ℕ} 32 0) in
-    let is-room = c .before .before .before .before .before .before .before .before .before .before .room-in .ensures in
-    let is-line = line-front (a .line .now) ((replicate {A = ℕ} 140 0)) (c .before .before .before .before .before .before .before .before .before .before .before .before .take-line .last .1 .0) (c .before .before .before .before .before .before .before .before .before .before .before .before .take-line .result) (c .before .before .before .before .before .before .before .before .before .before .before .before .take-line .ensures) ∙ ap (λ (n : ℕ). lineIn n (a .line .now)) ((length-replicate {A = ℕ} 140 0)) in
-    let size = length-take-le room values (omega (arith, is-room, (length-replicate {A = ℕ} 32 0))) in
-    fits (a .q) (a .line .now) (a .out .now) room is-room (take (c .before .before .before .before .before .before .before .before .before .before .before .before .take-line .result) (c .before .before .before .before .before .before .before .before .before .before .before .before .take-line .last .1 .0)) (take room values) (c .before .before .before .before .before .before .before .read .last .1 .1 .0) (c .before .before .before .before .before .before .before .read .result) is-line size (c .before .before .before .before .before .before .before .read .ensures)
+packed-reading-requires c κs = search needs
 
 same-length : tie.Need-same-length
 same-length c = search needs
