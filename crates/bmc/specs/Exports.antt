@@ -1,22 +1,10 @@
--- The C side's calls (document 01, "The C side"): a question by its seven numbers, and the certificate's answer packed into one number.
+-- The C side's calls (document 01, "The C side"): the certificate's answer packed into one number.
 use mathlib.Core.Path.{_≡_}
 use mathlib.Core.List.{List}
 use Prim.Native.Nat.{ℕ, _+_, _*_}
-use Rattle.questions.specs.declared.question.Question.{Question}
 use Rattle.certificate.specs.Certificate.{certifiedOf, certifiedNumber, textLeft}
 use Rattle.certificate.specs.declared.Certified.{Certified}
 use Rattle.certificate.specs.declared.Certified.the-variants.{Bytes, File, Room}
-
-abbrev pub asking : (kind n alive reg value device seed : ℕ) → Question
-asking kind n alive reg value device seed = record {
-  kind = kind;
-  n = n;
-  alive = alive;
-  reg = reg;
-  value = value;
-  device = device;
-  seed = seed;
-}
 
 abbrev pub bytesWritten : Certified → ℕ
 bytesWritten (Bytes n) = n

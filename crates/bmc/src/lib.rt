@@ -10,10 +10,11 @@ use c_twin::step_bytes;
 use certificate::Certified;
 use certificate::certify;
 use pec::pec;
-use questions::question::Question;
+use questions::question::ask;
 ghost use mathlib.Core.Path.{_≡_};
 ghost use Prim.Native.Nat.{_≤_};
 ghost use Rattle.pec.specs.Pec.{pecOf};
+ghost use Rattle.questions.specs.Question.{asking};
 ghost use Rattle.c_commands.specs.CommandBytes.{CommandBytesDone};
 ghost use Rattle.c_reader.specs.ReadBytes.{ReadBytesDone};
 ghost use Rattle.c_parts.specs.PartBytes.{partIn};
@@ -21,7 +22,7 @@ ghost use Rattle.c_cells.specs.CellBytes.{CellDone};
 ghost use Rattle.c_cells.specs.CellsBytes.{CellsDone};
 ghost use Rattle.c_twin.specs.TwinBytes.{PowerBytesDone, StepBytesDone};
 ghost use Rattle.certificate.specs.Certificate.{mostText};
-ghost use Rattle.bmc.specs.Exports.{asking, bytesWritten, packedCertified, CertificateBytesDone};
+ghost use Rattle.bmc.specs.Exports.{bytesWritten, packedCertified, CertificateBytesDone};
 
 #[no_mangle]
 pub extern "C" fn bmc_read(
@@ -37,7 +38,7 @@ pub extern "C" fn bmc_read(
 ) -> u32
     ensures { λ r. ⌜ ReadBytesDone (asking kind n alive reg value device seed) (now (line .entry)) (now (out .entry)) (now (out .exit)) r ⌝ }
 {
-    let q = question_of(kind, n, alive, reg, value, device, seed);
+    let q = ask(kind, n, alive, reg, value, device, seed);
     read_bytes(q, line, out)
 }
 
@@ -54,7 +55,7 @@ pub extern "C" fn bmc_command(
 ) -> u32
     ensures { λ r. ⌜ CommandBytesDone (asking kind n alive reg value device seed) (now (out .entry)) (now (out .exit)) r ⌝ }
 {
-    let command = question_of(kind, n, alive, reg, value, device, seed);
+    let command = ask(kind, n, alive, reg, value, device, seed);
     command_bytes(command, out)
 }
 
@@ -100,7 +101,7 @@ pub extern "C" fn bmc_part(
 ) -> u32
     ensures { λ r. ⌜ r ≡ partIn (asking kind n alive reg value device seed) named (now (line .entry)) ⌝ }
 {
-    let put = question_of(kind, n, alive, reg, value, device, seed);
+    let put = ask(kind, n, alive, reg, value, device, seed);
     part_bytes(put, named, line)
 }
 
@@ -138,20 +139,6 @@ pub extern "C" fn bmc_pec(bytes: &[u8]) -> u32
     ensures { λ r. ⌜ r ≡ pecOf (now (bytes .entry)) ⌝ }
 {
     pec(bytes) as u32
-}
-
-fn question_of(kind: u8, n: u8, alive: u8, reg: u8, value: u16, device: u8, seed: u8) -> Question
-    ensures { λ r. ⌜ r ≡ asking kind n alive reg value device seed ⌝ }
-{
-    Question {
-        kind,
-        n,
-        alive,
-        reg,
-        value,
-        device,
-        seed,
-    }
 }
 
 fn packed_certified(certified: Certified) -> u32

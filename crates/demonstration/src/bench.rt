@@ -16,15 +16,7 @@ ghost use lib.ListN.{length};
 
 // Register 12h of three devices; the alive byte is on and starts at FEh, so that it wraps on the way.
 pub(crate) fn ask(kind: u8, device: u8, value: u16) -> Question {
-    Question {
-        kind,
-        n: 3,
-        alive: 1,
-        reg: 0x12,
-        value,
-        device,
-        seed: 0xFE,
-    }
+    questions::question::ask(kind, 3, 1, 0x12, value, device, 0xFE)
 }
 
 pub(crate) fn registers() -> [u16; 768]

@@ -9,12 +9,12 @@ use lib.ListN.{length}
 use borrow.Author.Tests.{leb-true, ltb-true}
 use Rattle.ground.proofs.Test.{and-left, and-right}
 use Rattle.lines.specs.Line.{byteAt}
-use Rattle.questions.specs.Question.{goodQuestion}
+use Rattle.questions.specs.Question.{asking, aliveOn, goodQuestion}
 use Rattle.questions.specs.Shape.{shapeAt, shapeOf}
 use Rattle.questions.specs.declared.question.Question.{Question}
 use Rattle.questions.proofs.ByKind.{each-kind}
 use Rattle.questions.proofs.Good.{within-bounds}
-use Rattle.hearing.specs.Hear.{isPlace, kindHeard, carried, alivePlace, plainly, aliveOn, aliveTold, heard}
+use Rattle.hearing.specs.Hear.{isPlace, kindHeard, carried, plainly, aliveTold, heard}
 
 pub carried-le : (kind k : ℕ) → carried kind k ≤ k
 carried-le kind k = either (eqb kind 3)
@@ -25,13 +25,13 @@ carried-le kind k = either (eqb kind 3)
 
 -- a question from its fields, with alive off
 abbrev pub asked : (kind n reg low high device seed : ℕ) → Question
-asked kind n reg low high device seed =
-    record { kind = kind; n = n; alive = 0; reg = reg; value = low + 256 * high; device = device; seed = seed }
+asked kind n reg low high device seed = asking kind n 0 reg (low + 256 * high) device seed
 
-pub asked-same : (n device : ℕ) {kind kind′ reg reg′ low low′ high high′ seed seed′ : ℕ} → kind ≡ kind′ → reg ≡ reg′ → low ≡ low′ → high ≡ high′
-    → seed ≡ seed′ → asked kind n reg low high device seed ≡ asked kind′ n reg′ low′ high′ device seed′
-asked-same n device {kind} {kind′} {reg} {reg′} {low} {low′} {high} {high′} {seed} {seed′} k r l h s =
-    ap (λ (x : ℕ). asked x n reg low high device seed) k ∙ ap (λ (x : ℕ). asked kind′ n x low high device seed) r
+pub asked-same : (n device : ℕ) {q : Question} {kind kind′ reg reg′ low low′ high high′ seed seed′ : ℕ}
+    → q ≡ asked kind n reg low high device seed → kind ≡ kind′ → reg ≡ reg′ → low ≡ low′ → high ≡ high′
+    → seed ≡ seed′ → q ≡ asked kind′ n reg′ low′ high′ device seed′
+asked-same n device {q} {kind} {kind′} {reg} {reg′} {low} {low′} {high} {high′} {seed} {seed′} made k r l h s =
+    made ∙ ap (λ (x : ℕ). asked x n reg low high device seed) k ∙ ap (λ (x : ℕ). asked kind′ n x low high device seed) r
     ∙ ap (λ (x : ℕ). asked kind′ n reg′ x high device seed) l ∙ ap (λ (x : ℕ). asked kind′ n reg′ low′ x device seed) h
     ∙ ap (λ (x : ℕ). asked kind′ n reg′ low′ high′ device x) s
 
@@ -55,16 +55,16 @@ module _ (n k : ℕ) (line : List ℕ) where
       by-test true = off
       by-test false = on
 
-  plainly-within : (alive : ℕ) → alive ≤ 1 → isPlace n k ≡ true
-      → goodQuestion (record { kind = kindHeard k (byteAt line 0); n = n; alive = alive; reg = byteAt line 1; value = byteAt line 2 + 256 * byteAt line 3; device = k; seed = byteAt line (alivePlace (kindHeard k (byteAt line 0)) k) }) ≡ true
-  plainly-within alive h place =
-      within-bounds _ (kind-most k (byteAt line 0)) h (leb-true 1 n (and-left _ _ (and-left _ _ place)))
-      (leb-true n 32 (and-right (leb 1 n) _ (and-left _ _ place))) (ltb-true k n (and-right (leb 1 n && leb n 32) _ place))
-
   -- what a device of the chain hears is a good question, to itself or to all
   pub heard-good : isPlace n k ≡ true → goodQuestion (heard n k line) ≡ true
   unfolding plainly
-  heard-good place = heard-either (λ (q : Question). goodQuestion q ≡ true) (plainly-within 0 (lit≤ tt) place) (plainly-within 1 (lit≤ tt) place)
+  heard-good place =
+      let kind = kind-most k (byteAt line 0) in
+      let least = leb-true 1 n (and-left _ _ (and-left _ _ place)) in
+      let most = leb-true n 32 (and-right (leb 1 n) _ (and-left _ _ place)) in
+      let below = ltb-true k n (and-right (leb 1 n && leb n 32) _ place) in
+      heard-either (λ (q : Question). goodQuestion q ≡ true) (within-bounds (plainly n k line) kind (lit≤ tt) least most below)
+      (within-bounds (aliveOn (plainly n k line)) kind (lit≤ tt) least most below)
 
   pub heard-n : heard n k line .n ≡ n
   unfolding plainly

@@ -6,7 +6,7 @@ use Prim.Native.Nat.{ℕ, _+_, _*_}
 use lib.Dec.{leb, ltb, eqb}
 use lib.ListN.{length}
 use Rattle.lines.specs.Line.{byteAt}
-use Rattle.questions.specs.Question.{helloAll, writeAll, writeDevice, readAll, readDevice}
+use Rattle.questions.specs.Question.{asking, aliveOn, helloAll, writeAll, writeDevice, readAll, readDevice}
 use Rattle.questions.specs.Shape.{shapeOf}
 use Rattle.questions.specs.declared.question.Question.{Question}
 
@@ -36,20 +36,7 @@ alivePlace kind k = cond (leb kind writeDevice) 5 (4 + 2 * carried kind k)
 unfoldable pub plainly : (n k : ℕ) → List ℕ → Question
 plainly n k line =
     let kind = kindHeard k (byteAt line 0) in
-    record {
-      kind = kind;
-      n = n;
-      alive = 0;
-      reg = byteAt line 1;
-      value = byteAt line 2 + 256 * byteAt line 3;
-      device = k;
-      seed = byteAt line (alivePlace kind k);
-    }
-
--- a question with alive on
-abbrev pub aliveOn : Question → Question
-aliveOn q =
-    record { kind = q .kind; n = q .n; alive = 1; reg = q .reg; value = q .value; device = q .device; seed = q .seed }
+    asking kind n 0 (byteAt line 1) (byteAt line 2 + 256 * byteAt line 3) k (byteAt line (alivePlace kind k))
 
 -- The length tells whether alive is on.
 unfoldable pub aliveTold : Question → (words : ℕ) → Question

@@ -6,6 +6,7 @@ use questions::question::READALL;
 use questions::question::READDEVICE;
 use questions::question::WRITEALL;
 use questions::question::WRITEDEVICE;
+use questions::question::ask;
 use questions::question::shape_of;
 ghost use mathlib.Core.Path.{_≡_};
 ghost use Rattle.hearing.specs.Hear.{isPlace, kindHeard, carried, alivePlace, aliveTold, plainly, heard};
@@ -71,15 +72,9 @@ fn with_alive(q: Question, words: usize) -> Question
     if words == off {
         return q;
     }
-    Question {
-        kind: q.kind,
-        n: q.n,
-        alive: 1,
-        reg: q.reg,
-        value: q.value,
-        device: q.device,
-        seed: q.seed,
-    }
+    let mut r = q;
+    r.alive = 1;
+    r
 }
 
 fn without_alive(n: u8, device: u8, line: &[u16]) -> Question
@@ -90,15 +85,7 @@ fn without_alive(n: u8, device: u8, line: &[u16]) -> Question
     let low = byte_at(line, 2) as u16;
     let high = byte_at(line, 3) as u16;
     let seed = byte_at(line, alive_place(kind, device));
-    Question {
-        kind: kind,
-        n: n,
-        alive: 0,
-        reg: reg,
-        value: low + 256 * high,
-        device: device,
-        seed: seed,
-    }
+    ask(kind, n, 0, reg, low + 256 * high, device, seed)
 }
 
 // The question that the line puts to this device. Its seed is the alive byte as it stands.

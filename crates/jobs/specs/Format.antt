@@ -4,6 +4,7 @@ use mathlib.Core.List.{List, [], _∷_, _++_}
 use Prim.Native.Nat.{ℕ, _/_, _%_}
 use lib.ListN.{length}
 use Rattle.packing.specs.Words.{asBytes}
+use Rattle.questions.specs.Question.{asking}
 use Rattle.questions.specs.declared.question.Question.{Question}
 use Rattle.jobs.specs.declared.Header.{Header}
 
@@ -38,12 +39,4 @@ fileBytes h es = headerBytes h ++ entriesBytes es
 
 -- the entry's question: n and alive stand in the header
 abbrev pub asked : Header → Entry → Question
-asked h e = record {
-  kind = e .kind;
-  n = h .n;
-  alive = h .alive;
-  reg = e .reg;
-  value = e .value;
-  device = e .device;
-  seed = e .seed;
-}
+asked h e = asking (e .kind) (h .n) (h .alive) (e .reg) (e .value) (e .device) (e .seed)

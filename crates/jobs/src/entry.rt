@@ -7,6 +7,7 @@ use crate::Next;
 use crate::fields::are_unused_zero;
 use packing::join;
 use questions::question::Question;
+use questions::question::ask;
 ghost use mathlib.Core.Path.{_≡_};
 ghost use mathlib.Core.Bool.{true};
 ghost use Prim.Native.Nat.{_≤_};
@@ -80,13 +81,10 @@ fn question_in(header: Header, front: &[u8]) -> Question
     requires { ⌜ 8 ≤ length (now front) ⌝ }
     ensures { λ r. ⌜ r ≡ askedIn header (now (front .entry)) ⌝ }
 {
-    Question {
-        kind: front[0],
-        n: header.n,
-        alive: header.alive,
-        reg: front[1],
-        value: join(front[2], front[3]),
-        device: front[4],
-        seed: front[5],
-    }
+    let kind = front[0];
+    let reg = front[1];
+    let value = join(front[2], front[3]);
+    let device = front[4];
+    let seed = front[5];
+    ask(kind, header.n, header.alive, reg, value, device, seed)
 }

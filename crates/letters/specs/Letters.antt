@@ -6,7 +6,7 @@ use Prim.Native.Nat.{ℕ}
 use lib.Dec.{eqb}
 use lib.ListN.{getD, replicate}
 use Rattle.ground.specs.Sweep.{tabulated}
-use Rattle.questions.specs.Question.{helloAll, writeAll, writeDevice, readAll, goodQuestion, covers}
+use Rattle.questions.specs.Question.{asking, helloAll, writeAll, writeDevice, readAll, goodQuestion, covers}
 use Rattle.questions.specs.declared.question.Question.{Question}
 use Rattle.readings.specs.declared.Reading.{Reading}
 use Rattle.readings.specs.declared.Reading.the-variants.{Counted, Written, Values, Refused}
@@ -48,7 +48,7 @@ unheard write = record { write = write; letters = replicate 32 U }
 
 -- before the first good write: a question that covers no device
 abbrev pub nothingWritten : Question
-nothingWritten = record { kind = helloAll; n = 0; alive = 0; reg = 0; value = 0; device = 0; seed = 0 }
+nothingWritten = asking helloAll 0 0 0 0 0 0
 
 abbrev pub begun : Standing
 begun = unheard nothingWritten

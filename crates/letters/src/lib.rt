@@ -5,6 +5,7 @@ use questions::question::Question;
 use questions::question::READALL;
 use questions::question::WRITEALL;
 use questions::question::WRITEDEVICE;
+use questions::question::ask;
 use questions::question::is_good;
 use readings::Reading;
 use slices::least;
@@ -31,15 +32,7 @@ pub struct Standing {
 pub fn begin() -> Standing
     ensures { λ r. ⌜ r ≡ begun ⌝ }
 {
-    all_unheard(Question {
-        kind: HELLOALL,
-        n: 0,
-        alive: 0,
-        reg: 0,
-        value: 0,
-        device: 0,
-        seed: 0,
-    })
+    all_unheard(ask(HELLOALL, 0, 0, 0, 0, 0, 0))
 }
 
 // One entry: its question, what the reader said of its answer, and the values handed out. A good write starts all its devices anew; an

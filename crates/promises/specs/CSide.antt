@@ -1,8 +1,8 @@
 -- THE C SIDE (document 01, "The C side"): the question that a program passes to `bmc_read` and `bmc_command`, and the parts of the one number
 -- that it gets back.
 use Prim.Native.Nat.{ℕ, _/_, _%_, _<_}
+use Rattle.questions.specs.Question.{asking}
 use Rattle.questions.specs.declared.question.Question.{Question}
-use Rattle.bmc.specs.Exports.{asking}
 
 -- the seven numbers: the register is a byte and the value has 16 bits, as every program passes them
 pub record Numbers : Type 0 where

@@ -5,7 +5,7 @@ use mathlib.Core.List.{List, [], _∷_, map}
 use Prim.Native.Nat.{ℕ}
 use lib.IntN.{ℤ, pos, negℤ}
 use Rattle.pec.specs.Pec.{pecOf}
-use Rattle.questions.specs.Question.{writeAll, readAll}
+use Rattle.questions.specs.Question.{asking, writeAll, readAll}
 use Rattle.questions.specs.Shape.{shapeOf}
 use Rattle.questions.specs.Bytes.{aliveByte, commandBytes, answerBytes}
 use Rattle.questions.specs.declared.question.Question.{Question}
@@ -24,12 +24,12 @@ pec covered = bytes (pecOf covered ∷ [])
 
 -- READALL of 12h, one device, alive off
 abbrev pub readAll12 : Question
-readAll12 = record { kind = readAll; n = 1; alive = 0; reg = 0x12; value = 0; device = 0; seed = 0 }
+readAll12 = asking readAll 1 0 0x12 0 0 0
 
 -- the alive byte that comes back to a seed from so many devices
 abbrev pub aliveBack : (seed n : ℕ) → Figure
 aliveBack seed n =
-    let q : Question = record { kind = writeAll; n = n; alive = 1; reg = 0; value = 0; device = 0; seed = seed } in
+    let q : Question = asking writeAll n 1 0 0 0 seed in
     bytes (aliveByte q (shapeOf q .acting))
 
 -- measurement m in microvolts

@@ -5,12 +5,13 @@ use Prim.Native.Nat.{ℕ}
 use Rattle.remainder.specs.Register.{times, run}
 use Rattle.pec.specs.Pec.{bitStep, byteStep, pecOf}
 use Rattle.packing.specs.Words.{asBytes}
+use Rattle.questions.specs.Question.{readAll, asking}
 use Rattle.questions.specs.Shape.{shapeOf}
 use Rattle.questions.specs.Bytes.{onWire, sealed, fillPairs, commandBytes, answerBytes}
 use Rattle.questions.specs.declared.question.Question.{Question}
 
 abbrev pub readAll12 : (alive seed : ℕ) → Question
-readAll12 alive seed = record { kind = 3; n = 1; alive = alive; reg = 0x12; value = 0; device = 0; seed = seed }
+readAll12 alive seed = asking readAll 1 alive 0x12 0 0 seed
 
 -- alive off
 pub worked-command : commandBytes (readAll12 0 0) ≡ 0x03 ∷ 0x12 ∷ 0x00 ∷ 0xCB ∷ 0xC2 ∷ 0xD3 ∷ []

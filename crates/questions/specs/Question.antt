@@ -1,9 +1,18 @@
--- A question (document 01, "Commands and answers" and row 1 of "Turned away"): which are good, and which devices a question is put to.
+-- A question (document 01, "Commands and answers" and row 1 of "Turned away"): how one is made, which are good, and which devices one is put to.
 -- A field that a kind does not use is not looked at.
 use mathlib.Core.Bool.{Bool, false, _&&_, _||_, not}
 use Prim.Native.Nat.{ℕ, zero, suc}
 use lib.Dec.{leb, ltb, eqb}
 use Rattle.questions.specs.declared.question.Question.{Question}
+
+-- A question of its seven numbers, and a question with alive on: no other definition names all the fields.
+abbrev pub asking : (kind n alive reg value device seed : ℕ) → Question
+asking kind n alive reg value device seed =
+    record { kind = kind; n = n; alive = alive; reg = reg; value = value; device = device; seed = seed }
+
+abbrev pub aliveOn : Question → Question
+aliveOn q =
+    record { kind = q .kind; n = q .n; alive = 1; reg = q .reg; value = q .value; device = q .device; seed = q .seed }
 
 -- the kinds, by number
 abbrev pub helloAll : ℕ

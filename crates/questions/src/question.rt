@@ -1,6 +1,6 @@
 // A question as plain numbers, bad ones included, and what follows from its kind.
 ghost use mathlib.Core.Path.{_≡_};
-ghost use Rattle.questions.specs.Question.{goodQuestion, goodChain, covers};
+ghost use Rattle.questions.specs.Question.{asking, goodQuestion, goodChain, covers};
 ghost use Rattle.questions.specs.Shape.{shapeOf};
 
 pub const HELLOALL: u8 = 0;
@@ -32,6 +32,21 @@ pub struct Shape {
     pub values: usize,
     pub covered: usize,
     pub words: usize,
+}
+
+// A question of its seven numbers. Whoever makes one makes it here.
+pub fn ask(kind: u8, n: u8, alive: u8, reg: u8, value: u16, device: u8, seed: u8) -> Question
+    ensures { λ r. ⌜ r ≡ asking kind n alive reg value device seed ⌝ }
+{
+    Question {
+        kind,
+        n,
+        alive,
+        reg,
+        value,
+        device,
+        seed,
+    }
 }
 
 // Row 1, QUESTION, is given where this is false.

@@ -14,11 +14,12 @@ use Rattle.ground.proofs.Test.{below-or-not}
 use Rattle.remainder.specs.Turned.{Bytes}
 use Rattle.lines.specs.Line.{lineOf, byteAt}
 use Rattle.lines.proofs.Line.{byte-of-line, byte-lt}
+use Rattle.questions.specs.Question.{aliveOn}
 use Rattle.questions.specs.Shape.{shapeAt, shapeOf}
 use Rattle.questions.specs.declared.question.Question.{Question}
 use Rattle.questions.proofs.Good.{good-kind, hello-shape}
 use Rattle.acceptance.specs.Answer.{Sendable}
-use Rattle.hearing.specs.Hear.{kindHeard, carried, alivePlace, plainly, aliveOn, heard}
+use Rattle.hearing.specs.Hear.{kindHeard, carried, plainly, heard}
 use Rattle.underway.specs.OnTheWay.{onTheWay, wireOf}
 use Rattle.passage.specs.Acting.{acts}
 use Rattle.hearing.proofs.Hearing.{heard-either, heard-good, heard-n, room-for-one, place-below}
@@ -29,10 +30,9 @@ use Rattle.roundtrip.proofs.HelloActing.{met-is, hello-bytes, hello-way
 module _ (n k : ℕ) (line : List ℕ) where
   pub heard-sends : Sendable (heard n k line)
   unfolding plainly
-  heard-sends = heard-either n k line Sendable plain plain
-    where
-      plain : {alive : ℕ} → Sendable (record { kind = kindHeard k (byteAt line 0); n = n; alive = alive; reg = byteAt line 1; value = byteAt line 2 + 256 * byteAt line 3; device = k; seed = byteAt line (alivePlace (kindHeard k (byteAt line 0)) k) })
-      plain = record { reg = byte-lt line 1; value = omega (arith, byte-lt line 2, byte-lt line 3) }
+  heard-sends =
+      let value : byteAt line 2 + 256 * byteAt line 3 < 65536 = omega (arith, byte-lt line 2, byte-lt line 3) in
+      heard-either n k line Sendable (record { reg = byte-lt line 1; value = value }) (record { reg = byte-lt line 1; value = value })
 
   pub wire-small : (m : ℕ) → Bytes (wireOf line m)
   wire-small m i =

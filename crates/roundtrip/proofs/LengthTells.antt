@@ -6,9 +6,10 @@ use Prim.Native.Nat.{ℕ, _+_, _*_, _≤_}
 use lib.ListN.{length}
 use borrow.Author.Tests.{eq-eqb, ne-eqb}
 use Rattle.lines.specs.Line.{byteAt}
+use Rattle.questions.specs.Question.{aliveOn}
 use Rattle.questions.specs.Shape.{shapeOf}
 use Rattle.questions.specs.declared.question.Question.{Question}
-use Rattle.hearing.specs.Hear.{alivePlace, plainly, aliveOn, aliveTold, heard}
+use Rattle.hearing.specs.Hear.{alivePlace, plainly, aliveTold, heard}
 use Rattle.roundtrip.specs.Between.{For}
 use Rattle.roundtrip.proofs.KindTells.{words-alike}
 

@@ -16,15 +16,7 @@ ghost use lib.ListN.{length};
 
 // A question about register 12h.
 pub(crate) fn ask(kind: u8, n: u8, alive: u8, seed: u8) -> Question {
-    Question {
-        kind,
-        n,
-        alive,
-        reg: 0x12,
-        value: 0x000F,
-        device: 0,
-        seed,
-    }
+    questions::question::ask(kind, n, alive, 0x12, 0x000F, 0, seed)
 }
 
 pub(crate) fn show_question(q: Question) {

@@ -6,8 +6,8 @@ use borrow.Author.Needs.{needs}
 use Rattle.bmc.proofs.bmc_command.Statement.{statement}
 use Rattle.bmc.proofs.bmc_command.Tie as tie
 
-question-of-requires : tie.Need-question-of-requires
-question-of-requires c κs = search needs
+ask-requires : tie.Need-ask-requires
+ask-requires c κs = search needs
 
 command-bytes-requires : tie.Need-command-bytes-requires
 command-bytes-requires c κs = search needs
@@ -18,8 +18,8 @@ same-length c = search needs
 returns : tie.Need-returns
 returns c =
     let a = c .before .before .before .before .before .before .args in
-    subst (λ (q : Question). CommandBytesDone q (a .out .now) (c .before .before .command-bytes .last .1 .0) (c .before .before .command-bytes .result)) (c .before .before .before .before .question-of .ensures) (c .before .before .command-bytes .ensures)
+    subst (λ (q : Question). CommandBytesDone q (a .out .now) (c .before .before .command-bytes .last .1 .0) (c .before .before .command-bytes .result)) (c .before .before .before .before .ask .ensures) (c .before .before .command-bytes .ensures)
 
 pub bmc-command-spec : {M : Type 1} → statement M
 bmc-command-spec =
-    tie.close (tie.spec question-of-requires command-bytes-requires same-length returns)
+    tie.close (tie.spec ask-requires command-bytes-requires same-length returns)

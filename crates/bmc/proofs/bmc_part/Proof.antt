@@ -6,8 +6,8 @@ use borrow.Author.Needs.{needs}
 use Rattle.bmc.proofs.bmc_part.Statement.{statement}
 use Rattle.bmc.proofs.bmc_part.Tie as tie
 
-question-of-requires : tie.Need-question-of-requires
-question-of-requires c κs = search needs
+ask-requires : tie.Need-ask-requires
+ask-requires c κs = search needs
 
 part-bytes-requires : tie.Need-part-bytes-requires
 part-bytes-requires c κs = search needs
@@ -15,7 +15,7 @@ part-bytes-requires c κs = search needs
 returns : tie.Need-returns
 returns c =
     let a = c .before .before .before .args in
-    c .part-bytes .ensures ∙ ap (λ (q : Question). partIn q (a .named) (a .line .now)) (c .before .question-of .ensures)
+    c .part-bytes .ensures ∙ ap (λ (q : Question). partIn q (a .named) (a .line .now)) (c .before .ask .ensures)
 
 pub bmc-part-spec : {M : Type 1} → statement M
-bmc-part-spec = tie.close (tie.spec question-of-requires part-bytes-requires returns)
+bmc-part-spec = tie.close (tie.spec ask-requires part-bytes-requires returns)

@@ -6,8 +6,8 @@ use borrow.Author.Needs.{needs}
 use Rattle.bmc.proofs.bmc_read.Statement.{statement}
 use Rattle.bmc.proofs.bmc_read.Tie as tie
 
-question-of-requires : tie.Need-question-of-requires
-question-of-requires c κs = search needs
+ask-requires : tie.Need-ask-requires
+ask-requires c κs = search needs
 
 read-bytes-requires : tie.Need-read-bytes-requires
 read-bytes-requires c κs = search needs
@@ -18,7 +18,7 @@ same-length c = search needs
 returns : tie.Need-returns
 returns c =
     let a = c .before .before .before .before .before .before .before .args in
-    subst (λ (q : Question). ReadBytesDone q (a .line .now) (a .out .now) (c .before .before .read-bytes .last .1 .1 .0) (c .before .before .read-bytes .result)) (c .before .before .before .before .question-of .ensures) (c .before .before .read-bytes .ensures)
+    subst (λ (q : Question). ReadBytesDone q (a .line .now) (a .out .now) (c .before .before .read-bytes .last .1 .1 .0) (c .before .before .read-bytes .result)) (c .before .before .before .before .ask .ensures) (c .before .before .read-bytes .ensures)
 
 pub bmc-read-spec : {M : Type 1} → statement M
-bmc-read-spec = tie.close (tie.spec question-of-requires read-bytes-requires same-length returns)
+bmc-read-spec = tie.close (tie.spec ask-requires read-bytes-requires same-length returns)

@@ -2,8 +2,9 @@
 use mathlib.Core.Path.{sym, ap, _∙_}
 use mathlib.Core.Bool.{Bool, cond}
 use borrow.Author.Tests.{eq-eqb, ne-eqb}
+use Rattle.questions.specs.Question.{aliveOn}
 use Rattle.questions.specs.Shape.{shapeOf}
-use Rattle.hearing.specs.Hear.{aliveOn, aliveTold}
+use Rattle.hearing.specs.Hear.{aliveTold}
 use borrow.Author.Needs.{needs}
 use Rattle.hearing.proofs.with_alive.Statement.{statement}
 use Rattle.hearing.proofs.with_alive.Tie as tie

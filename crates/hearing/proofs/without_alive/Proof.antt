@@ -1,4 +1,4 @@
--- `without_alive` meets its contract: field by field.
+-- `without_alive` meets its contract: number by number.
 use mathlib.Core.Path.{ap, _∙_}
 use Prim.Native.Nat.{ℕ}
 use Rattle.lines.specs.Line.{byteAt}
@@ -35,19 +35,22 @@ alive-place-requires c κs = search needs
 byte-at-requires-5 : tie.Need-byte-at-requires-5
 byte-at-requires-5 c κs = search needs
 
-mul-t11 : tie.Need-mul-t11
-mul-t11 c = search needs
+mul-ask : tie.Need-mul-ask
+mul-ask c = search needs
 
-add-t12 : tie.Need-add-t12
-add-t12 c = search needs
+add-ask : tie.Need-add-ask
+add-ask c = search needs
+
+ask-requires : tie.Need-ask-requires
+ask-requires c κs = search needs
 
 returns : tie.Need-returns
 unfolding plainly
 returns c =
-    let a = c .before .before .before .before .before .before .before .before .args in
-    let kind = c .before .before .before .before .before .kind-heard .ensures ∙ ap (kindHeard (a .device)) (c .before .before .before .before .before .before .byte-at .ensures) in
-    asked-same (a .n) (a .device) kind (c .before .before .before .before .byte-at2 .ensures) (c .before .before .before .byte-at3 .ensures) (c .before .before .byte-at4 .ensures)
-    (c .byte-at5 .ensures ∙ ap (byteAt (a .line .now)) (c .before .alive-place .ensures ∙ ap (λ (k : ℕ). alivePlace k (a .device)) kind))
+    let a = c .before .before .before .before .before .before .before .before .before .args in
+    let kind = c .before .before .before .before .before .before .kind-heard .ensures ∙ ap (kindHeard (a .device)) (c .before .before .before .before .before .before .before .byte-at .ensures) in
+    asked-same (a .n) (a .device) (c .ask .ensures) kind (c .before .before .before .before .before .byte-at2 .ensures) (c .before .before .before .before .byte-at3 .ensures) (c .before .before .before .byte-at4 .ensures)
+    (c .before .byte-at5 .ensures ∙ ap (byteAt (a .line .now)) (c .before .before .alive-place .ensures ∙ ap (λ (k : ℕ). alivePlace k (a .device)) kind))
 
 pub without-alive-spec : {M : Type 1} → statement M
 without-alive-spec =
@@ -62,6 +65,7 @@ without-alive-spec =
     cast-high
     alive-place-requires
     byte-at-requires-5
-    mul-t11
-    add-t12
+    mul-ask
+    add-ask
+    ask-requires
     returns)
