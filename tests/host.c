@@ -21,13 +21,8 @@ static const struct {
     const char *name;
     void (*run)(void);
 } parts[] = {
-    { "worked numbers", try_worked_numbers },
-    { "lines", try_reads },
-    { "turned bits", try_distance },
-    { "commands", try_commands },
-    { "cells", try_cells },
-    { "twin", try_twin },
-    { "certificates", try_certificates }
+#define ROW(name, run) { name, run },
+    PARTS(ROW)
 };
 
 static int verbose;

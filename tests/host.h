@@ -2,7 +2,7 @@
  * host.h: what the files of the host program share.
  *
  * The host program calls the library through bmc.h and holds every result and
- * every lent byte beside what the reference second.c says. It stops at the
+ * every lent byte beside what the reference in second/ says. It stops at the
  * first difference. Its parts share random figures that a seed determines,
  * memory lent between guards, and answers and job files built from document 01
  * for the library to read.
@@ -11,7 +11,7 @@
 #define HOST_H
 
 #include "bmc.h"
-#include "second.h"
+#include "second/question.h"
 
 /* ---- host_random.c: random figures -------------------------------------- */
 
@@ -35,12 +35,13 @@ struct given {
     const uint8_t *at;
     size_t bytes;
 };
+enum { MOST_FIGURES = 16, MOST_GIVEN = 4 };
 struct trial {
     const char *call;
     const char *names;              /* of the figures, in order */
-    unsigned long figures[8];
+    unsigned long figures[MOST_FIGURES];
     size_t figure_count;
-    struct given given[2];
+    struct given given[MOST_GIVEN];
 };
 extern struct trial trial;
 #define QUESTION_NAMES "kind n alive reg value device seed "
@@ -89,6 +90,11 @@ void check_input(const struct lent *m, const uint8_t *from);
 void report_stray_access(void);
 
 /* ---- host_expect.c: what the reference says, in the library's form ------ */
+
+/* From the reference's form to the library's and back (see also put_slice). */
+void to_words(const uint8_t *bytes, size_t words, uint16_t *to);
+size_t room_words(size_t bytes, size_t most);
+uint32_t packed(unsigned number, unsigned byte, size_t high);
 
 uint32_t expect_read(struct s_question q, const uint8_t *line, size_t line_bytes,
                      uint8_t *out, size_t out_bytes);
@@ -226,14 +232,18 @@ uint32_t compare_step(struct chain *c, unsigned device, size_t room);
 void try_rough(struct chain *c);
 void try_nearly_right_chains(struct chain *c);
 
-/* ---- The parts, each in its own file ------------------------------------ */
+/* ---- The parts, each in its own file: a new one is a line here ---------- */
 
-void try_worked_numbers(void);
-void try_reads(void);
-void try_distance(void);
-void try_commands(void);
-void try_cells(void);
-void try_twin(void);
-void try_certificates(void);
+#define PARTS(part)                            \
+    part("worked numbers", try_worked_numbers) \
+    part("lines", try_reads)                   \
+    part("turned bits", try_distance)          \
+    part("commands", try_commands)             \
+    part("cells", try_cells)                   \
+    part("twin", try_twin)                     \
+    part("certificates", try_certificates)
+
+#define DECLARE(name, run) void run(void);
+PARTS(DECLARE)
 
 #endif

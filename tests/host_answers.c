@@ -6,6 +6,7 @@
  * right because the table says so.
  */
 #include "host.h"
+#include "second/pec.h"
 
 #include <string.h>
 

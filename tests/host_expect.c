@@ -1,27 +1,26 @@
 /*
  * host_expect.c: what the reference says, in the library's form.
  *
- * second.c speaks of words and of structs, bmc.h of bytes and packed results.
- * To the reader, a line that second.c cannot be given (an odd number of bytes,
+ * The reference speaks of words and of structs, bmc.h of bytes and packed
+ * results. To the reader, a line that it cannot be given (an odd number of bytes,
  * or too many) is handed over as an empty one, whose length is as wrong; to the
  * twin's step, the whole words of any line.
  */
 #include "host.h"
+#include "second/cells.h"
+#include "second/certificate.h"
+#include "second/command.h"
+#include "second/part.h"
+#include "second/reader.h"
+#include "second/registers.h"
+#include "second/twin.h"
 
 static const uint16_t no_words[1];
 
-static void to_words(const uint8_t *bytes, size_t words, uint16_t *to)
+void to_words(const uint8_t *bytes, size_t words, uint16_t *to)
 {
     for (size_t i = 0; i < words; i++)
         to[i] = (uint16_t)(bytes[2 * i] | bytes[2 * i + 1] << 8);
-}
-
-static void to_bytes(const uint16_t *words, size_t count, uint8_t *to)
-{
-    for (size_t i = 0; i < count; i++) {
-        to[2 * i] = (uint8_t)words[i];
-        to[2 * i + 1] = (uint8_t)(words[i] >> 8);
-    }
 }
 
 static int is_line(size_t line_bytes)
@@ -38,12 +37,12 @@ static size_t line_words(const uint8_t *line, size_t line_bytes, uint16_t *words
 }
 
 /* Whole words of room, and no more than the memory here has. */
-static size_t room_words(size_t bytes, size_t most)
+size_t room_words(size_t bytes, size_t most)
 {
     return bytes / 2 < most ? bytes / 2 : most;
 }
 
-static uint32_t packed(unsigned number, unsigned byte, size_t high)
+uint32_t packed(unsigned number, unsigned byte, size_t high)
 {
     return number | byte << 8 | (uint32_t)high << 16;
 }
@@ -57,7 +56,7 @@ uint32_t expect_read(struct s_question q, const uint8_t *line, size_t line_bytes
                                room_words(out_bytes, BMC_MOST_DEVICES));
     if (a.number != S_ACCEPTED)
         return packed((unsigned)a.number, a.byte, a.place);
-    to_bytes(values, a.values, out);
+    put_slice(values, a.values, out);
     return packed(0, a.count, a.values);
 }
 
@@ -67,7 +66,7 @@ uint32_t expect_command(struct s_question q, uint8_t *out, size_t out_bytes)
     size_t written;
     int number = s_command(q, words, room_words(out_bytes, BMC_LINE_MOST_WORDS),
                            &written);
-    to_bytes(words, written, out);
+    put_slice(words, written, out);
     return packed((unsigned)number, 0, written);
 }
 
@@ -143,7 +142,7 @@ uint32_t expect_power_on(unsigned n, uint8_t *memory, size_t memory_bytes)
     size_t count = memory_words(memory_bytes);
     int number = s_power_on(n, registers, count);
     if (number == S_ACCEPTED)
-        to_bytes(registers, count, memory);
+        put_slice(registers, count, memory);
     return (uint32_t)number;
 }
 
@@ -173,7 +172,7 @@ uint32_t expect_step(unsigned n, unsigned device,
         return (uint32_t)number;
     if (line_bytes % 2 != 0)
         return S_LENGTH;
-    to_bytes(registers, memory_bytes / 2, memory);
-    to_bytes(next, count, out);
+    put_slice(registers, memory_bytes / 2, memory);
+    put_slice(next, count, out);
     return S_ACCEPTED;
 }

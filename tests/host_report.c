@@ -47,7 +47,7 @@ static void print_trial(void)
     for (size_t i = 0; i < trial.figure_count; i++)
         printf(" %lu", trial.figures[i]);
     printf("\n");
-    for (size_t i = 0; i < 2; i++)
+    for (size_t i = 0; i < MOST_GIVEN; i++)
         if (trial.given[i].name != NULL)
             print_bytes(trial.given[i].name, trial.given[i].at, trial.given[i].bytes);
 }
@@ -90,13 +90,25 @@ void must(int holds, const char *what)
 
 /* ---- Counts ------------------------------------------------------------- */
 
-/* 01's numbers, and bmc_part's two sorts of answer. */
-enum { PARTS = 8, EMPTY_PART = 16, FULL_PART = 17, NUMBERS = 18 };
+/* 01's numbers in their order, then bmc_part's two sorts of answer. */
+static const char *const names[] = {
+    "accepted", "QUESTION", "ROOM", "LENGTH", "CHARACTER", "FRAME",
+    "MANCHESTER", "ECHO", "PEC", "ALIVE", "CHECK", "COUNT", "CHANNEL",
+    "LOW BITS", "FILE", "TWIN", "(empty part)", "(part)"
+};
+
+#define ONE(name, run) + 1
+enum {
+    NUMBERS = sizeof names / sizeof names[0],
+    EMPTY_PART = NUMBERS - 2,
+    FULL_PART = NUMBERS - 1,
+    ALL_PARTS = 0 PARTS(ONE)
+};
 
 static struct part {
     const char *name;
     unsigned long numbers[NUMBERS];
-} parts[PARTS];
+} parts[ALL_PARTS];
 static size_t part_count;
 
 void start_part(const char *name)
@@ -139,11 +151,6 @@ unsigned long inputs_compared(void)
 
 static void print_part(const struct part *part)
 {
-    static const char *const names[NUMBERS] = {
-        "accepted", "QUESTION", "ROOM", "LENGTH", "CHARACTER", "FRAME",
-        "MANCHESTER", "ECHO", "PEC", "ALIVE", "CHECK", "COUNT", "CHANNEL",
-        "LOW BITS", "FILE", "TWIN", "(empty part)", "(part)"
-    };
     printf("%s: %lu inputs;", part->name, inputs_of(part));
     for (unsigned number = 0; number < NUMBERS; number++)
         if (part->numbers[number] > 0)

@@ -6,6 +6,7 @@
  * one at a time.
  */
 #include "host.h"
+#include "second/pec.h"
 
 /* ---- Mishaps ------------------------------------------------------------ */
 

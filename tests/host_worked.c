@@ -5,6 +5,7 @@
  * but it is the document that decides here.
  */
 #include "host.h"
+#include "second/pec.h"
 
 #include <string.h>
 

@@ -1,12 +1,11 @@
 /*
- * second_certificate.c: the certificate program of document 01, second version.
+ * certify.c: the certificate program of document 01, second version.
  *
  * Reads a job file from standard input and prints its certificate, or the
  * line 'R 14' when the file is turned away (01, 'Job file and certificate').
- * Written from documents 01 and 004 and the readings in docs/DECISIONS.md; shares no code with the proved
- * crates. The exit status is 0 unless the output could not be written.
+ * See second.h. The exit status is 0 unless the output could not be written.
  */
-#include "second.h"
+#include "second/certificate.h"
 
 #include <stdio.h>
 
