@@ -9,8 +9,8 @@ use lib.ListN.{length, getD, take}
 use borrow.Author.Tests.{eqb-true}
 use Rattle.ground.proofs.Test.{and-left, and-right}
 use Rattle.pec.specs.Pec.{pecOf}
-use Rattle.lines.specs.Line.{byteCount, bytesOf}
-use Rattle.lines.proofs.Line.{length-bytes}
+use Rattle.lines.specs.Line.{bytesOf}
+use Rattle.lines.proofs.Line.{byteCount, length-bytes}
 use Rattle.questions.specs.Question.{byForm}
 use Rattle.questions.specs.Shape.{shapeOf}
 use Rattle.questions.specs.Bytes.{sealed}

@@ -1,6 +1,6 @@
 -- One cell (document 01, "Cells"): CHANNEL comes first, then "not measured", then LOW BITS.
-use mathlib.Core.Bool.{Bool, cond, _&&_}
-use Prim.Native.Nat.{ℕ, _+_, _-_, _/_, _%_, _^_}
+use mathlib.Core.Bool.{Bool, false, cond, _&&_}
+use Prim.Native.Nat.{ℕ, zero, suc, _+_, _/_, _%_, _^_}
 use mathlib.Core.List.{List, [], _∷_}
 use lib.Dec.{eqb, leb}
 use Rattle.cells.specs.Voltage.{voltageOf}
@@ -11,9 +11,10 @@ use Rattle.cells.specs.declared.Cell.the-variants.{Measured, NotMeasured
 use Rattle.cells.specs.declared.CellRefusal.{CellRefusal}
 use Rattle.cells.specs.declared.CellRefusal.the-variants.{Channel, LowBits}
 
--- mask bit c-1 stands for cell c
+-- mask bit b stands for cell b + 1; there is no cell 0
 abbrev pub enabled : (mask c : ℕ) → Bool
-enabled mask c = eqb (mask / 2 ^ (c - 1) % 2) 1
+enabled mask zero = false
+enabled mask (suc b) = eqb (mask / 2 ^ b % 2) 1
 
 -- The measurement is the register divided by 4; either low bit set is LOW BITS.
 unfoldable pub cellOf : Range → (mask c register : ℕ) → Cell

@@ -78,7 +78,8 @@ word-distance a b ha hb =
 -- ---- the word of any number is a word
 
 followed-lt : (b : ℕ) → b < 2 → followed b < 3
-followed-lt b h = omega arith
+followed-lt zero h = omega arith
+followed-lt (suc b) h = omega arith
 
 data-lt : (a b c d : ℕ) → a < 3 → b < 3 → c < 3 → d < 3 → a + 4 * b + 16 * c + 64 * d < 256
 data-lt a b c d = λ ha hb hc hd. omega arith

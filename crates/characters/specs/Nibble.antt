@@ -1,13 +1,18 @@
 -- The character of a nibble (document 01, "The line"): each bit is followed by its complement, lowest bit first.
 use mathlib.Core.Bool.{Bool}
-use Prim.Native.Nat.{ℕ, _+_, _-_, _*_}
+use Prim.Native.Nat.{ℕ, zero, suc, _+_, _*_}
 use lib.Dec.{eqb}
 use Rattle.ground.specs.Sweep.{some}
 use Rattle.characters.specs.Character.{bit, wordOf}
 
+-- the other bit
+abbrev pub complement : ℕ → ℕ
+complement zero = 1
+complement (suc b) = 0
+
 -- a bit, and its complement in the place after it
 abbrev pub followed : ℕ → ℕ
-followed b = b + 2 * (1 - b)
+followed b = b + 2 * complement b
 
 -- the data bits of a nibble's character: nibble 0 is AAh, 1 is A9h, Fh is 55h
 abbrev pub nibbleData : ℕ → ℕ

@@ -10,7 +10,8 @@ use lib.Dec.{eqb, leb}
 use lib.ListN.{length}
 use borrow.Author.Tests.{eqb-true, eq-eqb, leb-true, le-leb}
 use Rattle.ground.proofs.Test.{below-or-not}
-use Rattle.lines.specs.Line.{byteCount, bytesOf}
+use Rattle.lines.specs.Line.{bytesOf}
+use Rattle.lines.proofs.Line.{byteCount}
 use Rattle.scanning.specs.Place.{firstNoCharacter, firstNoNibble}
 use Rattle.scanning.specs.Frame.{framed}
 use Rattle.scanning.specs.declared.Place.{Place}

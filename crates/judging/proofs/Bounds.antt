@@ -13,7 +13,7 @@ use Rattle.scanning.specs.Place.{firstNoCharacter, firstNoNibble}
 use Rattle.scanning.specs.Frame.{framed}
 use Rattle.scanning.specs.declared.Place.{Place}
 use Rattle.scanning.specs.declared.Place.the-variants.{At, Nowhere}
-use Rattle.scanning.proofs.FirstPlace.{at-first}
+use Rattle.scanning.proofs.FirstPlace.{at-first, characters-along, nibbles-along}
 use Rattle.questions.specs.Question.{goodQuestion}
 use Rattle.questions.specs.Shape.{shapeOf}
 use Rattle.questions.specs.declared.question.Question as asked
@@ -34,12 +34,10 @@ use Rattle.judging.specs.Judge.{givenAt, screenRows, rowsOf, judgeOf}
 -- ---- a place lies on the line
 
 character-place : (line : List ℕ) (i : ℕ) → firstNoCharacter line ≡ At i → i ≤ length line
-unfolding firstNoCharacter
-character-place line i e = omega (arith, at-first _ line 0 (length line) i e .below)
+character-place line i e = omega (arith, at-first _ line 0 (length line) i (sym (characters-along line) ∙ e) .below)
 
 nibble-place : (line : List ℕ) (i : ℕ) → firstNoNibble line ≡ At i → i ≤ length line
-unfolding firstNoNibble
-nibble-place line i e = omega (arith, at-first _ line 1 (length line - 2) i e .below)
+nibble-place line i e = omega (arith, at-first _ line 1 (length line - 2) i (sym (nibbles-along line) ∙ e) .below)
 
 place-within : (q : asked.Question) (line : List ℕ) (room : ℕ) → placeOf (judgeOf q line room) ≤ length line
 unfolding judgeOf rowsOf screenRows byteRows

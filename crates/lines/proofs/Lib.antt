@@ -1,3 +1,4 @@
+pub mod Between
 pub mod Line
 mod Nibbles
 pub mod LineDistance

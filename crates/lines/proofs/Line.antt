@@ -16,7 +16,8 @@ use Rattle.remainder.specs.Turned.{Bytes}
 use Rattle.characters.specs.Character.{stop}
 use Rattle.characters.specs.Nibble.{nibbleWord, trueBits}
 use Rattle.characters.proofs.Nibble.{true-bits-of, true-bits-lt, nibble-word-lt}
-use Rattle.lines.specs.Line.{charactersOf, lineOf, byteAt, byteCount, bytesOf}
+use Rattle.lines.specs.Line.{charactersOf, lineOf, byteAt, between, bytesIn, bytesOf}
+use Rattle.lines.proofs.Between.{length-between, between-at}
 
 pub length-characters : (bytes : List ℕ) → length (charactersOf bytes) ≡ 2 * length bytes
 unfolding charactersOf
@@ -75,13 +76,45 @@ byte-of-line bytes b i h =
     ∙ ap₂ (λ (x y : ℕ). x + 16 * y) (true-bits-of (byte % 16) (omega arith)) (true-bits-of (byte / 16) (omega arith))
     ∙ omega arith
 
+-- how many bytes a line has, by its length
+abbrev pub byteCount : List ℕ → ℕ
+byteCount line = (length line - 2) / 2
+
+length-carried : (words : List ℕ) → length (bytesIn words) ≡ length words / 2
+unfolding bytesIn
+length-carried [] = omega arith
+length-carried (word ∷ []) = omega arith
+length-carried (low ∷ high ∷ words) = let h = length-carried words in omega arith
+
+carried-at : (words : List ℕ) (i : ℕ) → i < length words / 2
+    → getD (bytesIn words) i 0 ≡ trueBits (getD words (2 * i) 0) + 16 * trueBits (getD words (suc (2 * i)) 0)
+unfolding bytesIn
+carried-at [] i h = absurd (omega arith)
+carried-at (word ∷ []) i h = absurd (omega arith)
+carried-at (low ∷ high ∷ words) zero h = refl
+carried-at (low ∷ high ∷ words) (suc i) h = rw two-more (carried-at words i (omega arith))
+
 pub length-bytes : (line : List ℕ) → length (bytesOf line) ≡ byteCount line
 unfolding bytesOf
-length-bytes line = length-tabulated (byteAt line) (byteCount line) 0
+length-bytes line = omega (arith, length-carried (between line), length-between line)
 
 pub bytes-at : (line : List ℕ) (i : ℕ) → i < byteCount line → getD (bytesOf line) i 0 ≡ byteAt line i
-unfolding bytesOf
-bytes-at line i h = tabulated-at (byteAt line) (byteCount line) 0 i h ∙ ap (byteAt line) (zero-add i)
+unfolding bytesOf byteAt
+bytes-at line i h =
+    let size = length-between line in
+    let word : (k at : ℕ) → k < length (between line) → suc k ≡ at → getD (between line) k 0 ≡ getD line at 0 =
+    λ k at inside e. between-at line k inside ∙ ap (λ (p : ℕ). getD line p 0) e in
+    carried-at (between line) i (omega arith)
+    ∙ ap₂ (λ (x y : ℕ). trueBits x + 16 * trueBits y) (word (2 * i) (1 + 2 * i) (omega arith) (omega arith))
+    (word (suc (2 * i)) (2 + 2 * i) (omega arith) (omega arith))
+
+-- byte by byte, by the words' places
+pub bytes-by-place : (line : List ℕ) → bytesOf line ≡ tabulated (byteAt line) (byteCount line) 0
+bytes-by-place line =
+    let table = tabulated (byteAt line) (byteCount line) 0 in
+    ext-getD 0 (bytesOf line) table (length-bytes line ∙ sym (length-tabulated (byteAt line) (byteCount line) 0))
+    (λ i h. let inside : i < byteCount line = omega (arith, length-bytes line) in
+    bytes-at line i inside ∙ sym (tabulated-at (byteAt line) (byteCount line) 0 i inside ∙ ap (byteAt line) (zero-add i)))
 
 pub byte-lt : (line : List ℕ) (i : ℕ) → byteAt line i < 256
 unfolding byteAt
@@ -102,8 +135,9 @@ bytes-of-line bytes b =
 
 -- where as many bytes are lent as the line has, they are the line's
 pub all-read : (line out : List ℕ) → length out ≡ byteCount line → sets out 0 (bytesOf line) ≡ bytesOf line
-unfolding bytesOf
-all-read line out e = ap (λ (n : ℕ). sets out 0 (tabulated (byteAt line) n 0)) (sym e) ∙ filled-whole (byteAt line) out ∙ ap (λ (n : ℕ). tabulated (byteAt line) n 0) e
+all-read line out e =
+    ap (sets out 0) (bytes-by-place line) ∙ ap (λ (n : ℕ). sets out 0 (tabulated (byteAt line) n 0)) (sym e) ∙ filled-whole (byteAt line) out
+    ∙ ap (λ (n : ℕ). tabulated (byteAt line) n 0) e ∙ sym (bytes-by-place line)
 
 -- the places of a line of n bytes: the first, two for each byte, the last
 pub by-place : (P : ℕ → Type 0) (n : ℕ) → P 0 → ((i : ℕ) → i < n → P (1 + 2 * i)) → ((i : ℕ) → i < n → P (2 + 2 * i)) → P (1 + 2 * n)

@@ -8,7 +8,7 @@ ghost use lib.ListN.{length, getD};
 ghost use lib.Seq.{sets};
 ghost use Rattle.ground.specs.Sweep.{tabulated};
 ghost use Rattle.characters.specs.Nibble.{trueBits};
-ghost use Rattle.lines.specs.Line.{byteAt, byteCount, bytesOf};
+ghost use Rattle.lines.specs.Line.{byteAt, bytesOf};
 ghost use Rattle.lines.specs.Nibbles.{nibbleIn, twoOf};
 
 // Byte i of a line; a word past the end reads as 0.
@@ -25,7 +25,7 @@ pub fn byte_at(line: &[u16], i: usize) -> u8
 
 // How many bytes a line has between its ends.
 fn byte_count(line: &[u16]) -> usize
-    ensures { λ r. ⌜ r ≡ byteCount (now (line .entry)) ⌝ }
+    ensures { λ r. ⌜ r ≡ length (bytesOf (now (line .entry))) ⌝ }
 {
     if line.len() < 2 {
         return 0;

@@ -17,7 +17,8 @@ use Rattle.character_check.specs.Check.{isCharacter}
 use Rattle.scanning.specs.Place.{firstNoCharacter, firstNoNibble}
 use Rattle.scanning.specs.Frame.{framed}
 use Rattle.scanning.specs.declared.Place.the-variants.{At, Nowhere}
-use Rattle.scanning.proofs.FirstPlace.{at-first, nowhere-passes}
+use Rattle.scanning.proofs.FirstPlace.{at-first, nowhere-passes, characters-along, nibbles-along}
+use Rattle.scanning.proofs.Ends.{framed-ends, first-preamble, last-stop}
 use Rattle.questions.specs.Question.{byForm, goodChain, goodQuestion}
 use Rattle.questions.specs.Shape.{shapeOf}
 use Rattle.questions.specs.declared.question.Question as asked
@@ -80,45 +81,39 @@ module _ (q : asked.Question) where
 
 module _ (line : List ℕ) where
   pub no-character : (i : ℕ) → firstNoCharacter line ≡ At i → Lowest isCharacter line 0 i
-  unfolding firstNoCharacter
   no-character i e =
-      let at = at-first isCharacter line 0 (length line) i e in
+      let at = at-first isCharacter line 0 (length line) i (sym (characters-along line) ∙ e) in
       record { from = at .from; below = omega (arith, at .below); fails = at .fails; lower-pass = at .passes }
 
   pub all-characters : firstNoCharacter line ≡ Nowhere → (i : ℕ) × (i < length line) × (isCharacter (getD line i 0) ≡ false) → ⊥
-  unfolding firstNoCharacter
   all-characters e (i, below, fails) =
-      never (nowhere-passes isCharacter line 0 (length line) e i (omega arith) (omega arith)) fails
+      never (nowhere-passes isCharacter line 0 (length line) (sym (characters-along line) ∙ e) i (omega arith) (omega arith)) fails
 
   pub no-nibble : (i : ℕ) → firstNoNibble line ≡ At i → Lowest isNibble line 1 i
-  unfolding firstNoNibble
   no-nibble i e =
-      let at = at-first isNibble line 1 (length line - 2) i e in
+      let at = at-first isNibble line 1 (length line - 2) i (sym (nibbles-along line) ∙ e) in
       record { from = at .from; below = omega (arith, at .below, at .from); fails = at .fails; lower-pass = at .passes }
 
   pub all-nibbles : firstNoNibble line ≡ Nowhere → (i : ℕ) × (1 ≤ i) × (i + 1 < length line) × (isNibble (getD line i 0) ≡ false) → ⊥
-  unfolding firstNoNibble
   all-nibbles e (i, from, below, fails) =
-      never (nowhere-passes isNibble line 1 (length line - 2) e i from (omega arith)) fails
+      never (nowhere-passes isNibble line 1 (length line - 2) (sym (nibbles-along line) ∙ e) i from (omega arith)) fails
 
 -- ---- 5 FRAME
 
 pub bad-frame : (line : List ℕ) → framed line ≡ false → NotFramed line
-unfolding framed
 bad-frame [] e = first-word (λ z. omega arith)
 bad-frame (w ∷ line) e =
     ⊎-elim (λ f. first-word (eqb-false w preamble f))
     (λ f. let at : length (w ∷ line) - 1 ≡ length line = omega arith in
     last-word (length line) (omega arith)
     (λ is. eqb-false (getD (w ∷ line) (length (w ∷ line) - 1) 0) stop f (ap (λ (k : ℕ). getD (w ∷ line) k 0) at ∙ is)))
-    (and-false (eqb w preamble) (eqb (getD (w ∷ line) (length (w ∷ line) - 1) 0) stop) e)
+    (and-false (eqb w preamble) (eqb (getD (w ∷ line) (length (w ∷ line) - 1) 0) stop) (sym (framed-ends (w ∷ line)) ∙ e))
 
 pub good-frame : (line : List ℕ) → framed line ≡ true → NotFramed line → ⊥
-unfolding framed
-good-frame line e (first-word other) = other (eqb-true (getD line 0 0) preamble (and-left _ _ e))
+good-frame line e (first-word other) = other (first-preamble line e)
 good-frame line e (last-word i end other) =
     let at : i ≡ length line - 1 = omega arith in
-    other (ap (λ (k : ℕ). getD line k 0) at ∙ eqb-true (getD line (length line - 1) 0) stop (and-right (eqb (getD line 0 0) preamble) _ e))
+    other (ap (λ (k : ℕ). getD line k 0) at ∙ last-stop line e)
 
 -- ---- 7 to 11, on the bytes
 

@@ -4,8 +4,8 @@ use mathlib.Core.List.{List}
 use Prim.Native.Nat.{ℕ, _-_, _≤_}
 use native.Mathlib.Omega.{arith}
 use lib.ListN.{length}
-use Rattle.lines.specs.Line.{byteCount, bytesOf}
-use Rattle.lines.proofs.Line.{length-bytes}
+use Rattle.lines.specs.Line.{bytesOf}
+use Rattle.lines.proofs.Line.{byteCount, length-bytes}
 use Rattle.questions.specs.declared.question.Question.{Question}
 use Rattle.questions.proofs.Good.{words-most, words-least}
 use Rattle.readings.specs.Reading.{valuesTaken}

@@ -3,10 +3,10 @@ use mathlib.Core.Path.{_≡_, refl, sym, ap, ap₂, _∙_}
 use mathlib.Core.Bool.{Bool, true, false, cond}
 use mathlib.Core.Logic.{⊎-elim}
 use mathlib.Core.List.{List, [], _∷_, _++_}
-use Prim.Native.Nat.{ℕ, _+_, _-_, _/_, _%_, _≤_, _<_}
+use Prim.Native.Nat.{ℕ, _+_, _%_, _≤_, _<_}
 use native.Mathlib.Omega.{arith}
 use lib.Dec.{eqb}
-use lib.ListN.{length}
+use lib.ListN.{length, drop}
 use borrow.Author.Tests.{eqb-true}
 use Rattle.ground.proofs.Test.{below-or-not}
 use Rattle.pec.specs.Pec.{pecOf}
@@ -57,6 +57,6 @@ module _ (q q′ : Question) (added : ℕ) (a : Alike q q′ added) where
       (λ (reads : 3 ≤ q .kind).
       let covered : readOnWay q′ wire ≡ readOnWay q wire = ap₂ (λ (x y : ℕ). x ∷ y ∷ (wire ++ (0 ∷ []))) (a .first) (a .reg) in
       way-read q′ count more wire (omega (arith, a .kind))
-      ∙ ap₂ (λ (x : List ℕ) (v : ℕ). x ++ fillPairs (v - length wire / 2)) (sealed-alike more (readOnWay q wire) (readOnWay q′ wire) covered) (a .values)
+      ∙ ap₂ (λ (x : List ℕ) (v : ℕ). x ++ drop (length wire) (fillPairs v)) (sealed-alike more (readOnWay q wire) (readOnWay q′ wire) covered) (a .values)
       ∙ sym (way-read q count (added + more) wire reads))
       (below-or-not (q .kind) 3)

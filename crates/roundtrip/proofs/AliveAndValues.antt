@@ -3,7 +3,7 @@ use mathlib.Core.Path.{_≡_, refl, sym, ap, ap₂, _∙_}
 use mathlib.Core.Bool.{Bool, cond}
 use mathlib.Core.Logic.{⊎-elim}
 use mathlib.Core.List.{List, [], _∷_, _++_}
-use Prim.Native.Nat.{ℕ, suc, _+_, _-_, _*_, _/_, _%_, _≤_, _<_}
+use Prim.Native.Nat.{ℕ, suc, _+_, _*_, _%_, _≤_, _<_}
 use native.Mathlib.Omega.{arith}
 use lib.ListN.{length, getD, length-append, List·getD-append}
 use lib.Seq.{ext-getD}
@@ -14,7 +14,7 @@ use Rattle.remainder.specs.Turned.{Bytes}
 use Rattle.lines.specs.Line.{lineOf, byteAt}
 use Rattle.lines.proofs.Line.{length-line}
 use Rattle.questions.specs.Shape.{shapeAt, shapeOf}
-use Rattle.questions.specs.Bytes.{sealed, fillPairs, writeCovered}
+use Rattle.questions.specs.Bytes.{sealed, writeCovered}
 use Rattle.questions.specs.declared.question.Question.{Question}
 use Rattle.questions.proofs.ByKind.{each-kind}
 use Rattle.questions.proofs.Good.{good-kind, good-alive, write-shape, read-shape}
@@ -22,7 +22,7 @@ use Rattle.acceptance.specs.Answer.{Sendable}
 use Rattle.acceptance.proofs.Sealed.{length-sealed, sealed-alive}
 use Rattle.hearing.specs.Hear.{carried, alivePlace}
 use Rattle.underway.specs.OnTheWay.{onTheWay, wireOf}
-use Rattle.underway.proofs.Way.{readOnWay, way-write, way-read}
+use Rattle.underway.proofs.Way.{readOnWay, pairsLeft, way-write, way-read}
 use Rattle.roundtrip.specs.Between.{For}
 use Rattle.roundtrip.proofs.BytesBetween.{inside, line-words, at, first-byte}
 
@@ -68,13 +68,12 @@ module _ (q : Question) (n k : ℕ) (f : For q n k) (sends : Sendable q) (added 
       of-read : 3 ≤ q .kind → byteAt heardLine (alivePlace (q .kind) k) ≡ (q .seed + added) % 256
       of-read reads =
           let covered = readOnWay q wire in
-          let pairs = fillPairs (shapeOf q .values - length wire / 2) in
           let place : 4 + 2 * carried (q .kind) k ≡ length covered + 1 = omega (arith, length-append wire (0 ∷ []), put) in
           let within : length covered + 1 < length (sealed q added covered) = omega (arith, length-sealed q added alive-here covered) in
           ap (λ (t : Bool). byteAt heardLine (cond t 5 (4 + 2 * carried (q .kind) k))) (lt-leb (q .kind) 2 reads)
           ∙ at-here (4 + 2 * carried (q .kind) k) (omega (arith, length-line (onTheWay q k added wire), words-here, read-shape q reads .words, room reads, put))
           ∙ ap₂ (λ (l : List ℕ) (i : ℕ). getD l i 0) (way-read q k added wire reads) place
-          ∙ List·getD-append (sealed q added covered) pairs 0 (length covered + 1) within ∙ sealed-alive q added covered on
+          ∙ List·getD-append (sealed q added covered) (pairsLeft q wire) 0 (length covered + 1) within ∙ sealed-alive q added covered on
 
   -- the values put in so far
   pub wire-back : 3 ≤ q .kind → wireOf heardLine m ≡ wire
@@ -88,5 +87,5 @@ module _ (q : Question) (n k : ℕ) (f : For q n k) (sends : Sendable q) (added 
       two-more : (i : ℕ) → 2 + i ≡ suc (suc i)
       two-more i = omega arith
 
-      inner : (i : ℕ) → i < length wire → getD (sealed q added (readOnWay q wire) ++ fillPairs (shapeOf q .values - length wire / 2)) (suc (suc i)) 0 ≡ getD wire i 0
-      inner i h = inside q added wire (fillPairs (shapeOf q .values - length wire / 2)) i h
+      inner : (i : ℕ) → i < length wire → getD (sealed q added (readOnWay q wire) ++ pairsLeft q wire) (suc (suc i)) 0 ≡ getD wire i 0
+      inner i h = inside q added wire (pairsLeft q wire) i h

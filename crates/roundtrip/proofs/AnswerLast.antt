@@ -3,16 +3,17 @@ use mathlib.Core.Path.{_≡_, sym, ap, ap₂, _∙_}
 use mathlib.Core.Bool.{true}
 use mathlib.Core.Logic.{⊎-elim}
 use mathlib.Core.List.{List, [], _∷_, _++_, append-nil}
-use Prim.Native.Nat.{ℕ, _-_, _/_, _≤_, _<_}
+use Prim.Native.Nat.{ℕ, _≤_, _<_}
 use native.Mathlib.Nat.{eq-zero-or-pos}
 use native.Mathlib.Omega.{arith}
-use lib.ListN.{length}
+use lib.ListN.{length, drop-of-length-le}
 use Rattle.ground.proofs.Test.{below-or-not}
 use Rattle.lines.specs.Line.{lineOf}
 use Rattle.questions.specs.Question.{goodQuestion}
 use Rattle.questions.specs.Shape.{shapeOf}
 use Rattle.questions.specs.Bytes.{onWire, fillPairs, sealed, readCovered, writeCovered, answerBytes}
 use Rattle.questions.specs.declared.question.Question.{Question}
+use Rattle.questions.proofs.Bytes.{length-pairs}
 use Rattle.questions.proofs.ByKind.{of-hello, of-write, of-read}
 use Rattle.questions.proofs.Good.{good-kind}
 use Rattle.acceptance.specs.Answer.{Registers, Sendable, Fitting}
@@ -35,10 +36,6 @@ read-answer : (q : Question) (values : List ℕ) → 3 ≤ q .kind → answerByt
 unfolding answerBytes
 read-answer q values reads = of-read (q .kind) _ _ _ reads
 
-no-pairs : (l : List ℕ) → l ++ fillPairs 0 ≡ l
-unfolding fillPairs
-no-pairs l = append-nil l
-
 module _ (q : Question) (good : goodQuestion q ≡ true) (sends : Sendable q) (n : ℕ) (chain : 1 ≤ q .kind → q .n ≡ n) (least : 1 ≤ n) (most : n ≤ 32)
     (memory : List ℕ) (words : Registers memory) where
   -- when all devices have had it, the line is the right answer
@@ -51,9 +48,11 @@ module _ (q : Question) (good : goodQuestion q ≡ true) (sends : Sendable q) (n
       ∙ sym (write-answer q (broughtBack q n memory) some (omega arith))) (eq-zero-or-pos (q .kind)))
       (λ (reads : 3 ≤ q .kind).
       let back = broughtBack q n memory in
-      let full : shapeOf q .values - length (onWire back) / 2 ≡ 0 = omega (arith, length-wire back, all-number q good sends n chain memory words reads) in
+      let full : length (fillPairs (shapeOf q .values)) ≤ length (onWire back) =
+      omega (arith, length-pairs (shapeOf q .values), length-wire back, all-number q good sends n chain memory words reads) in
       ap (λ (l : List ℕ). onTheWay q n (acted q n) (onWire l)) (all-put q good sends n chain memory words reads) ∙ way-read q n (acted q n) (onWire back) reads
-      ∙ ap₂ (λ (a p : ℕ). sealed q a (readCovered q back 0) ++ fillPairs p) (all-acted q good sends n chain memory words (omega arith)) full ∙ no-pairs (sealed q (shapeOf q .acting) (readCovered q back 0))
+      ∙ ap₂ (λ (a : ℕ) (left : List ℕ). sealed q a (readCovered q back 0) ++ left) (all-acted q good sends n chain memory words (omega arith))
+      (drop-of-length-le (fillPairs (shapeOf q .values)) full) ∙ append-nil (sealed q (shapeOf q .acting) (readCovered q back 0))
       ∙ sym (read-answer q back reads)) (below-or-not (q .kind) 3))
     where
       hello-answer : q .kind ≡ 0 → answerBytes q (broughtBack q n memory) 0 ≡ shapeOf q .first ∷ 0 ∷ n ∷ []

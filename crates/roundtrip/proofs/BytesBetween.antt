@@ -3,10 +3,11 @@ use mathlib.Core.Path.{_≡_, sym, ap, ap₂, _∙_, subst}
 use mathlib.Core.Bool.{true}
 use mathlib.Core.Logic.{⊎-elim}
 use mathlib.Core.List.{List, [], _∷_, _++_}
-use Prim.Native.Nat.{ℕ, zero, suc, _+_, _-_, _*_, _/_, _%_, _≤_, _<_}
+use Prim.Native.Nat.{ℕ, zero, suc, _+_, _*_, _/_, _%_, _≤_, _<_}
 use native.Mathlib.Omega.{arith}
 use lib.Dec.{lit<}
 use lib.ListN.{length, getD, length-append, List·getD-append}
+use lib.Seq.{getD-drop}
 use Rattle.ground.proofs.Test.{below-or-not}
 use Rattle.remainder.specs.Turned.{Bytes}
 use Rattle.pec.specs.Pec.{pecOf}
@@ -21,7 +22,7 @@ use Rattle.acceptance.specs.Answer.{Sendable}
 use Rattle.acceptance.proofs.Wire.{bytes-append, bytes-cons, no-bytes, two-bytes}
 use Rattle.acceptance.proofs.Sealed.{length-alive, length-sealed, sealed-bytes}
 use Rattle.underway.specs.OnTheWay.{onTheWay}
-use Rattle.underway.proofs.Way.{readOnWay, way-write, way-read, read-size}
+use Rattle.underway.proofs.Way.{readOnWay, pairsLeft, way-write, way-read, read-size}
 
 pub inside : (q : Question) (added : ℕ) (wire rest : List ℕ) (i : ℕ) → i < length wire → getD (sealed q added (readOnWay q wire) ++ rest) (suc (suc i)) 0 ≡ getD wire i 0
 unfolding sealed
@@ -69,12 +70,17 @@ module _ (q : Question) (good : goodQuestion q ≡ true) (sends : Sendable q) (c
       (λ (reads : 3 ≤ q .kind). omega (arith, ap length (way-read q count added wire reads), read-size q added wire, length-alive q added alive-small, read-shape q reads .words, room reads))
       (below-or-not (q .kind) 3)
 
+  left-bytes : Bytes (pairsLeft q wire)
+  left-bytes i =
+      let pairs = fillPairs (shapeOf q .values) in
+      omega (arith, getD-drop (length wire) pairs i 0, pairs-bytes (shapeOf q .values) (length wire + i))
+
   way-bytes : Bytes bytes
   way-bytes =
       ⊎-elim
       (λ (low : q .kind < 3). subst Bytes (sym (way-write q count added wire some (omega arith))) (sealed-bytes q added alive-small (writeCovered q) write-covered-bytes))
       (λ (reads : 3 ≤ q .kind). subst Bytes (sym (way-read q count added wire reads))
-      (bytes-append (sealed q added (readOnWay q wire)) (fillPairs (shapeOf q .values - length wire / 2)) (sealed-bytes q added alive-small (readOnWay q wire) read-covered-bytes) (pairs-bytes (shapeOf q .values - length wire / 2))))
+      (bytes-append (sealed q added (readOnWay q wire)) (pairsLeft q wire) (sealed-bytes q added alive-small (readOnWay q wire) read-covered-bytes) left-bytes))
       (below-or-not (q .kind) 3)
 
   four : 4 ≤ length bytes

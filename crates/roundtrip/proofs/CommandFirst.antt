@@ -1,17 +1,14 @@
 -- The beginning of the way: before any device has had it, the line between is the command.
 use mathlib.Core.Path.{_≡_, refl, sym, ap, ap₂, _∙_}
 use mathlib.Core.Bool.{Bool, false, cond}
-use mathlib.Core.List.{List, [], _∷_, _++_}
+use mathlib.Core.List.{List, [], _∷_}
 use Prim.Native.Nat.{ℕ, _≤_}
-use native.Mathlib.Nat.{sub-zero}
 use native.Mathlib.Omega.{arith}
 use lib.Dec.{ltb}
 use borrow.Author.Tests.{le-ltb}
 use Rattle.lines.specs.Line.{lineOf}
-use Rattle.questions.specs.Question.{byForm}
-use Rattle.questions.specs.Shape.{shapeOf}
 use Rattle.packing.specs.Words.{asBytes}
-use Rattle.questions.specs.Bytes.{onWire, fillPairs, sealed, writeCovered, commandBytes}
+use Rattle.questions.specs.Bytes.{onWire, commandBytes}
 use Rattle.commands.specs.Command.{commandLine}
 use Rattle.questions.specs.declared.question.Question.{Question}
 use Rattle.questions.proofs.ByKind.{each-kind}
@@ -40,9 +37,7 @@ none-put q memory kind =
 
 unsent : (q : Question) → commandBytes q ≡ onTheWay q 0 0 (onWire [])
 unfolding commandBytes onTheWay onWire asBytes
-unsent q =
-    ap (λ (p : ℕ). byForm (q .kind) (shapeOf q .first ∷ 0 ∷ 0 ∷ []) (sealed q 0 (writeCovered q)) (sealed q 0 (shapeOf q .first ∷ q .reg ∷ 0 ∷ []) ++ fillPairs p))
-    (sym (sub-zero (shapeOf q .values)))
+unsent q = refl
 
 -- before any device has had it, the line is the command
 pub command-first : (q : Question) (memory : List ℕ) → q .kind ≤ 4 → commandLine q ≡ lineBetween q 0 memory

@@ -1,14 +1,20 @@
--- Laws of the first failing place: it fails the test, every lower place passes it, and there is none exactly where all pass.
+-- Laws of the first failing place: it fails the test, every lower place passes it, and there is none exactly where all pass. By places, as the
+-- loops go along a line; rows 4 and 6 find the same place.
 use mathlib.Core.Path.{_≡_, refl, sym, ap, ap₂, _∙_, subst}
 use mathlib.Core.Bool.{Bool, true, false, cond, true≢false, false≢true}
 use mathlib.Core.Logic.{⊎-elim}
-use mathlib.Core.List.{List}
+use mathlib.Core.List.{List, [], _∷_}
 use Prim.Native.Nat.{ℕ, zero, suc, _+_, _-_, _≤_, _<_}
 use native.Mathlib.Nat.{add-suc, add-zero, eq-or-lt-of-le, suc-add, zero-add}
-use native.Mathlib.Numerals.{add-one}
+use native.Mathlib.Numerals.{add-one, one-add}
 use native.Mathlib.Omega.{arith}
-use lib.ListN.{getD}
-use Rattle.scanning.specs.Place.{firstFailing, firstNoNibble, isNowhere, allNibbles}
+use lib.ListN.{length, getD}
+use Rattle.character_check.specs.Check.{isCharacter}
+use Rattle.characters.specs.Nibble.{isNibble}
+use Rattle.lines.specs.Line.{between}
+use Rattle.lines.proofs.Between.{length-between, between-at}
+use Rattle.scanning.specs.Place.{firstFailing, firstNoCharacter, firstNoNibble, isNowhere, allNibbles}
+use Rattle.scanning.specs.Along.{failingAlong}
 use Rattle.scanning.specs.declared.Place.{Place}
 use Rattle.scanning.specs.declared.Place.the-variants.{At, Nowhere}
 
@@ -22,30 +28,30 @@ module _ (test : ℕ → Bool) (line : List ℕ) where
     more : i < end → end - i ≡ suc (end - (i + 1))
     more h = omega arith
 
-    pub scan-on : i < end → test (getD line i 0) ≡ true → firstFailing test line i (end - i) ≡ firstFailing test line (i + 1) (end - (i + 1))
-    unfolding firstFailing
+    pub scan-on : i < end → test (getD line i 0) ≡ true → failingAlong test line i (end - i) ≡ failingAlong test line (i + 1) (end - (i + 1))
+    unfolding failingAlong
     scan-on h e =
-        ap (firstFailing test line i) (more h) ∙ ap (λ (t : Bool). cond t (firstFailing test line (suc i) (end - (i + 1))) (At i)) e
-        ∙ ap (λ (k : ℕ). firstFailing test line k (end - (i + 1))) (sym (add-one i))
+        ap (failingAlong test line i) (more h) ∙ ap (λ (t : Bool). cond t (failingAlong test line (suc i) (end - (i + 1))) (At i)) e
+        ∙ ap (λ (k : ℕ). failingAlong test line k (end - (i + 1))) (sym (add-one i))
 
-    pub scan-here : i < end → test (getD line i 0) ≡ false → firstFailing test line i (end - i) ≡ At i
-    unfolding firstFailing
+    pub scan-here : i < end → test (getD line i 0) ≡ false → failingAlong test line i (end - i) ≡ At i
+    unfolding failingAlong
     scan-here h e =
-        ap (firstFailing test line i) (more h) ∙ ap (λ (t : Bool). cond t (firstFailing test line (suc i) (end - (i + 1))) (At i)) e
+        ap (failingAlong test line i) (more h) ∙ ap (λ (t : Bool). cond t (failingAlong test line (suc i) (end - (i + 1))) (At i)) e
 
-    pub scan-done : end ≤ i → firstFailing test line i (end - i) ≡ Nowhere
-    unfolding firstFailing
-    scan-done h = let none : end - i ≡ 0 = omega arith in ap (firstFailing test line i) none
+    pub scan-done : end ≤ i → failingAlong test line i (end - i) ≡ Nowhere
+    unfolding failingAlong
+    scan-done h = let none : end - i ≡ 0 = omega arith in ap (failingAlong test line i) none
 
   -- places that pass are passed over
-  pub passed-over : (i n m : ℕ) → ((j : ℕ) → i ≤ j → j < i + n → test (getD line j 0) ≡ true) → firstFailing test line i (n + m) ≡ firstFailing test line (i + n) m
-  unfolding firstFailing
-  passed-over i zero m all = ap₂ (λ (k l : ℕ). firstFailing test line k l) (sym (add-zero i)) (zero-add m)
+  pub passed-over : (i n m : ℕ) → ((j : ℕ) → i ≤ j → j < i + n → test (getD line j 0) ≡ true) → failingAlong test line i (n + m) ≡ failingAlong test line (i + n) m
+  unfolding failingAlong
+  passed-over i zero m all = ap₂ (λ (k l : ℕ). failingAlong test line k l) (sym (add-zero i)) (zero-add m)
   passed-over i (suc n) m all =
-      ap (firstFailing test line i) (suc-add n m)
-      ∙ ap (λ (t : Bool). cond t (firstFailing test line (suc i) (n + m)) (At i)) (all i (omega arith) (omega arith))
+      ap (failingAlong test line i) (suc-add n m)
+      ∙ ap (λ (t : Bool). cond t (failingAlong test line (suc i) (n + m)) (At i)) (all i (omega arith) (omega arith))
       ∙ passed-over (suc i) n m (λ j lo hi. all j (omega arith) (omega arith))
-      ∙ ap (λ (k : ℕ). firstFailing test line k m) (suc-add i n ∙ sym (add-suc i n))
+      ∙ ap (λ (k : ℕ). failingAlong test line k m) (suc-add i n ∙ sym (add-suc i n))
 
   -- ---- what the answer says
 
@@ -81,48 +87,70 @@ module _ (test : ℕ → Bool) (line : List ℕ) where
   here i n e =
       record { from = omega arith; below = omega arith; fails = e; passes = λ j lo hi. absurd (omega arith) }
 
-  scan-says : (i n : ℕ) → Says i n (firstFailing test line i n)
-  unfolding firstFailing
+  scan-says : (i n : ℕ) → Says i n (failingAlong test line i n)
+  unfolding failingAlong
   scan-says i zero = λ j lo hi. absurd (omega arith)
   scan-says i (suc n) = by-test (test (getD line i 0)) refl (scan-says (suc i) n)
     where
-      by-test : (t : Bool) → test (getD line i 0) ≡ t → Says (suc i) n (firstFailing test line (suc i) n)
-          → Says i (suc n) (cond t (firstFailing test line (suc i) n) (At i))
-      by-test true e s = passed i n (firstFailing test line (suc i) n) e s
+      by-test : (t : Bool) → test (getD line i 0) ≡ t → Says (suc i) n (failingAlong test line (suc i) n)
+          → Says i (suc n) (cond t (failingAlong test line (suc i) n) (At i))
+      by-test true e s = passed i n (failingAlong test line (suc i) n) e s
       by-test false e s = here i n e
 
-  pub at-first : (i n k : ℕ) → firstFailing test line i n ≡ At k → FailsFirst i n k
+  pub at-first : (i n k : ℕ) → failingAlong test line i n ≡ At k → FailsFirst i n k
   at-first i n k e = subst (Says i n) e (scan-says i n)
 
-  pub nowhere-passes : (i n : ℕ) → firstFailing test line i n ≡ Nowhere → Passes i n
+  pub nowhere-passes : (i n : ℕ) → failingAlong test line i n ≡ Nowhere → Passes i n
   nowhere-passes i n e = subst (Says i n) e (scan-says i n)
 
-  pub passes-nowhere : (i n : ℕ) → Passes i n → firstFailing test line i n ≡ Nowhere
-  passes-nowhere i n h = by-answer (firstFailing test line i n) (scan-says i n)
+  pub passes-nowhere : (i n : ℕ) → Passes i n → failingAlong test line i n ≡ Nowhere
+  passes-nowhere i n h = by-answer (failingAlong test line i n) (scan-says i n)
     where
       by-answer : (r : Place) → Says i n r → r ≡ Nowhere
       by-answer (At k) s = absurd (true≢false (sym (h k (s .from) (s .below)) ∙ s .fails))
       by-answer Nowhere s = refl
 
   -- what passes up to a place is passed over
-  pub skipped : (i k end : ℕ) → i ≤ k → k ≤ end → firstFailing test line i (k - i) ≡ Nowhere → firstFailing test line k (end - k) ≡ firstFailing test line i (end - i)
+  pub skipped : (i k end : ℕ) → i ≤ k → k ≤ end → failingAlong test line i (k - i) ≡ Nowhere → failingAlong test line k (end - k) ≡ failingAlong test line i (end - i)
   skipped i k end lo hi none =
       let size : i + (k - i) ≡ k = omega arith in
       let rest : k - i + (end - k) ≡ end - i = omega arith in
-      sym (passed-over i (k - i) (end - k) (nowhere-passes i (k - i) none) ∙ ap (λ (j : ℕ). firstFailing test line j (end - k)) size)
-      ∙ ap (firstFailing test line i) rest
+      sym (passed-over i (k - i) (end - k) (nowhere-passes i (k - i) none) ∙ ap (λ (j : ℕ). failingAlong test line j (end - k)) size)
+      ∙ ap (failingAlong test line i) rest
 
   -- a block in which no place is found passes as well
-  pub block-on : (i k n : ℕ) → i ≤ k → firstFailing test line i (k - i) ≡ Nowhere → isNowhere (firstFailing test line k (k + n - k)) ≡ true
-      → firstFailing test line i (k + n - i) ≡ Nowhere
+  pub block-on : (i k n : ℕ) → i ≤ k → failingAlong test line i (k - i) ≡ Nowhere → isNowhere (failingAlong test line k (k + n - k)) ≡ true
+      → failingAlong test line i (k + n - i) ≡ Nowhere
   block-on i k n lo none block =
-      sym (skipped i k (k + n) lo (omega arith) none) ∙ is-nowhere (firstFailing test line k (k + n - k)) block
+      sym (skipped i k (k + n) lo (omega arith) none) ∙ is-nowhere (failingAlong test line k (k + n - k)) block
 
 -- where one test is the stricter, what passes it passes the other
 pub weaker : (strict test : ℕ → Bool) → ((w : ℕ) → strict w ≡ true → test w ≡ true) → (line : List ℕ) (i n : ℕ)
-    → firstFailing strict line i n ≡ Nowhere → firstFailing test line i n ≡ Nowhere
+    → failingAlong strict line i n ≡ Nowhere → failingAlong test line i n ≡ Nowhere
 weaker strict test also line i n none =
     passes-nowhere test line i n (λ j lo hi. also (getD line j 0) (nowhere-passes strict line i n none j lo hi))
+
+-- ---- rows 4 and 6 by places
+
+-- words that stand on a line from place i on
+along : (test : ℕ → Bool) (line : List ℕ) (i : ℕ) (words : List ℕ) → ((k : ℕ) → k < length words → getD words k 0 ≡ getD line (i + k) 0)
+    → firstFailing test i words ≡ failingAlong test line i (length words)
+unfolding firstFailing failingAlong
+along test line i [] stand = refl
+along test line i (word ∷ words) stand =
+    ap₂ (λ (w : ℕ) (p : Place). cond (test w) p (At i)) (stand 0 (omega arith) ∙ ap (λ (k : ℕ). getD line k 0) (add-zero i))
+    (along test line (suc i) words
+    (λ k h. stand (suc k) (omega arith) ∙ ap (λ (j : ℕ). getD line j 0) (add-suc i k ∙ sym (suc-add i k))))
+
+pub characters-along : (line : List ℕ) → firstNoCharacter line ≡ failingAlong isCharacter line 0 (length line)
+unfolding firstNoCharacter
+characters-along line = along isCharacter line 0 line (λ k h. ap (λ (j : ℕ). getD line j 0) (sym (zero-add k)))
+
+pub nibbles-along : (line : List ℕ) → firstNoNibble line ≡ failingAlong isNibble line 1 (length line - 2)
+unfolding firstNoNibble
+nibbles-along line =
+    along isNibble line 1 (between line) (λ k h. between-at line k h ∙ ap (λ (j : ℕ). getD line j 0) (sym (one-add k)))
+    ∙ ap (failingAlong isNibble line 1) (length-between line)
 
 -- where every word between the ends is a nibble's, MANCHESTER finds no place; and a place where not
 pub nibbles-nowhere : (line : List ℕ) → allNibbles line ≡ true → firstNoNibble line ≡ Nowhere

@@ -1,4 +1,5 @@
 pub mod FirstPlace
+pub mod Ends
 mod NoMisfits
 pub mod Marks
 pub mod Whole

@@ -9,14 +9,15 @@ use lib.Bits.{bitOr, and-le-l, or-add-and, or-zero-r}
 use lib.Dec.{eqb}
 use lib.ListN.{getD}
 use borrow.Author.Tests.{eqb-true, eqb-false, ne-eqb}
-use Rattle.scanning.specs.Place.{firstFailing, isNowhere}
+use Rattle.scanning.specs.Place.{isNowhere}
+use Rattle.scanning.specs.Along.{failingAlong}
 use Rattle.scanning.specs.declared.Place.{Place}
 use Rattle.scanning.proofs.FirstPlace.{scan-on, scan-here, scan-done}
 
 module _ (test : ℕ → Bool) (line : List ℕ) where
   -- nothing was marked so far, and no place from i up to the end fails
   abbrev pub unmarked : (bad i end : ℕ) → Bool
-  unmarked bad i end = eqb bad 0 && isNowhere (firstFailing test line i (end - i))
+  unmarked bad i end = eqb bad 0 && isNowhere (failingAlong test line i (end - i))
 
   -- at the end the marks alone decide
   pub no-more : (bad i end : ℕ) → end ≤ i → unmarked bad i end ≡ eqb bad 0
@@ -30,6 +31,6 @@ module _ (test : ℕ → Bool) (line : List ℕ) where
       by-test true e none =
           ap₂ (λ (n : ℕ) (p : Place). eqb n 0 && isNowhere p) (ap (bitOr bad) (eqb-true m 0 none) ∙ or-zero-r bad) (sym (scan-on test line i end h e))
       by-test false e some =
-          ap (λ (t : Bool). t && isNowhere (firstFailing test line (i + 1) (end - (i + 1))))
+          ap (λ (t : Bool). t && isNowhere (failingAlong test line (i + 1) (end - (i + 1))))
           (ne-eqb (bitOr bad m) 0 (λ e. eqb-false m 0 some (omega (arith, e, or-add-and bad m, and-le-l bad m))))
           ∙ sym (ap (λ (p : Place). eqb bad 0 && isNowhere p) (scan-here test line i end h e) ∙ and-false (eqb bad 0))

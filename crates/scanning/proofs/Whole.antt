@@ -5,23 +5,22 @@ use mathlib.Core.Bool.{true}
 use mathlib.Core.List.{List}
 use Prim.Native.Nat.{ℕ, _+_, _-_, _*_, _/_, _%_, _≤_, _<_}
 use native.Mathlib.Omega.{arith}
-use lib.Dec.{eqb}
 use lib.ListN.{length, getD}
 use lib.Seq.{ext-getD}
-use borrow.Author.Tests.{eqb-true, eq-eqb}
-use Rattle.ground.proofs.Test.{and-left, and-right}
+use borrow.Author.Tests.{eq-eqb}
 use Rattle.remainder.specs.Turned.{Bytes}
-use Rattle.characters.specs.Character.{preamble, stop}
+use Rattle.characters.specs.Character.{stop}
 use Rattle.character_check.specs.Check.{isCharacter}
 use Rattle.characters.specs.Nibble.{nibbleWord, trueBits, isNibble}
 use Rattle.characters.proofs.Nibble.{nibble-nibble, nibble-word, true-bits-lt}
 use Rattle.character_check.proofs.Pass.{preamble-character, stop-character, nibble-character}
 use Rattle.scanning.specs.Place.{firstNoCharacter, firstNoNibble}
-use Rattle.lines.specs.Line.{lineOf, byteAt, byteCount, bytesOf}
+use Rattle.lines.specs.Line.{lineOf, byteAt, bytesOf}
 use Rattle.scanning.specs.Frame.{framed}
 use Rattle.scanning.specs.declared.Place.the-variants.{Nowhere}
-use Rattle.scanning.proofs.FirstPlace.{passes-nowhere, nowhere-passes}
-use Rattle.lines.proofs.Line.{by-place, length-line, low-word, high-word, last-word, length-bytes, bytes-at}
+use Rattle.scanning.proofs.FirstPlace.{passes-nowhere, nowhere-passes, characters-along, nibbles-along}
+use Rattle.scanning.proofs.Ends.{framed-ends, first-preamble, last-stop}
+use Rattle.lines.proofs.Line.{byteCount, by-place, length-line, low-word, high-word, last-word, length-bytes, bytes-at}
 
 -- the three rows
 pub record Passes (line : List ℕ) : Type 0 where
@@ -55,19 +54,18 @@ module _ (bytes : List ℕ) (b : Bytes bytes) where
       (λ lo hi. absurd (omega arith))
 
   line-framed : framed (lineOf bytes) ≡ true
-  unfolding framed lineOf
+  unfolding lineOf
   line-framed =
       let end : length (lineOf bytes) - 1 ≡ 1 + 2 * length bytes = omega (arith, length-line bytes) in
-      eq-eqb (getD (lineOf bytes) (length (lineOf bytes) - 1) 0) stop (ap (λ (k : ℕ). getD (lineOf bytes) k 0) end ∙ last-word bytes)
+      framed-ends (lineOf bytes) ∙ eq-eqb (getD (lineOf bytes) (length (lineOf bytes) - 1) 0) stop (ap (λ (k : ℕ). getD (lineOf bytes) k 0) end ∙ last-word bytes)
 
   pub line-passes : Passes (lineOf bytes)
-  unfolding firstNoCharacter firstNoNibble
   line-passes =
       let words = length-line bytes in
       record {
-        characters = passes-nowhere isCharacter (lineOf bytes) 0 (length (lineOf bytes)) (λ j lo hi. every-character j (omega arith));
+        characters = characters-along (lineOf bytes) ∙ passes-nowhere isCharacter (lineOf bytes) 0 (length (lineOf bytes)) (λ j lo hi. every-character j (omega arith));
         frame = line-framed;
-        nibbles = passes-nowhere isNibble (lineOf bytes) 1 (length (lineOf bytes) - 2) (λ j lo hi. inner-nibble j (omega arith) lo (omega arith));
+        nibbles = nibbles-along (lineOf bytes) ∙ passes-nowhere isNibble (lineOf bytes) 1 (length (lineOf bytes) - 2) (λ j lo hi. inner-nibble j (omega arith) lo (omega arith));
       }
 
 -- ---- a line that passes is the line of its own bytes
@@ -83,9 +81,8 @@ module _ (line : List ℕ) (n : ℕ) (even : length line ≡ 2 * n + 2) (p : Pas
   count = omega arith
 
   is-nibble : (j : ℕ) → 1 ≤ j → j ≤ 2 * n → getD line j 0 ≡ nibbleWord (trueBits (getD line j 0))
-  unfolding firstNoNibble
   is-nibble j lo hi =
-      nibble-word (getD line j 0) (nowhere-passes isNibble line 1 (length line - 2) (p .nibbles) j lo (omega arith))
+      nibble-word (getD line j 0) (nowhere-passes isNibble line 1 (length line - 2) (sym (nibbles-along line) ∙ p .nibbles) j lo (omega arith))
 
   word-bits : ℕ → ℕ
   word-bits j = trueBits (getD line j 0)
@@ -109,16 +106,15 @@ module _ (line : List ℕ) (n : ℕ) (even : length line ≡ 2 * n + 2) (p : Pas
       ∙ sym (high-word (bytesOf line) i (omega (arith, count, length-bytes line)))
 
   own-last : getD line (1 + 2 * n) 0 ≡ getD (lineOf (bytesOf line)) (1 + 2 * n) 0
-  unfolding framed
   own-last =
       let end : 1 + 2 * n ≡ length line - 1 = omega arith in
       let own-end : 1 + 2 * n ≡ 1 + 2 * length (bytesOf line) = omega (arith, count, length-bytes line) in
-      ap (λ (k : ℕ). getD line k 0) end ∙ eqb-true (getD line (length line - 1) 0) stop (and-right (eqb (getD line 0 0) preamble) _ (p .frame))
+      ap (λ (k : ℕ). getD line k 0) end ∙ last-stop line (p .frame)
       ∙ sym (ap (λ (k : ℕ). getD (lineOf (bytesOf line)) k 0) own-end ∙ last-word (bytesOf line))
 
   own-first : getD line 0 0 ≡ getD (lineOf (bytesOf line)) 0 0
-  unfolding framed lineOf
-  own-first = eqb-true (getD line 0 0) preamble (and-left _ _ (p .frame))
+  unfolding lineOf
+  own-first = first-preamble line (p .frame)
 
   pub own-bytes : line ≡ lineOf (bytesOf line)
   own-bytes =

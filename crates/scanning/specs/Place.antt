@@ -1,32 +1,25 @@
 -- Bad places of a line (document 01, rows 4 and 6 of "Turned away"): the lowest one, counted in words from 0, or none.
 use mathlib.Core.Bool.{Bool, true, false, cond}
-use mathlib.Core.List.{List}
-use Prim.Native.Nat.{ℕ, zero, suc, _-_}
-use lib.ListN.{length, getD}
+use mathlib.Core.List.{List, [], _∷_}
+use Prim.Native.Nat.{ℕ, suc}
 use Rattle.character_check.specs.Check.{isCharacter}
 use Rattle.characters.specs.Nibble.{isNibble}
-use Rattle.scanning.specs.declared.Row.{Row}
-use Rattle.scanning.specs.declared.Row.the-variants.{Character, Manchester}
+use Rattle.lines.specs.Line.{between}
 use Rattle.scanning.specs.declared.Place.{Place}
 use Rattle.scanning.specs.declared.Place.the-variants.{At, Nowhere}
 
--- the lowest of the n places from i on whose word fails the test
-unfoldable pub firstFailing : (test : ℕ → Bool) → List ℕ → (i n : ℕ) → Place
-firstFailing test line i zero = Nowhere
-firstFailing test line i (suc n) = cond (test (getD line i 0)) (firstFailing test line (suc i) n) (At i)
-
--- what each row holds a word to
-abbrev pub testOf : Row → ℕ → Bool
-testOf Character = isCharacter
-testOf Manchester = isNibble
+-- the lowest place whose word fails the test, of words of which the first stands at place i
+unfoldable pub firstFailing : (test : ℕ → Bool) → (i : ℕ) → (words : List ℕ) → Place
+firstFailing test i [] = Nowhere
+firstFailing test i (word ∷ words) = cond (test word) (firstFailing test (suc i) words) (At i)
 
 -- CHARACTER looks at every word
 unfoldable pub firstNoCharacter : List ℕ → Place
-firstNoCharacter line = firstFailing (testOf Character) line 0 (length line)
+firstNoCharacter line = firstFailing isCharacter 0 line
 
 -- MANCHESTER looks at the words between the first and the last
 unfoldable pub firstNoNibble : List ℕ → Place
-firstNoNibble line = firstFailing (testOf Manchester) line 1 (length line - 2)
+firstNoNibble line = firstFailing isNibble 1 (between line)
 
 abbrev pub isNowhere : Place → Bool
 isNowhere (At i) = false

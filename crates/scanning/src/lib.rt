@@ -8,7 +8,8 @@ ghost use Prim.Native.Nat.{_≤_, _-_};
 ghost use lib.Dec.{eqb};
 ghost use lib.ListN.{length};
 ghost use Rattle.characters.specs.Nibble.{isNibble};
-ghost use Rattle.scanning.specs.Place.{testOf, firstFailing, firstNoCharacter, firstNoNibble, isNowhere, allNibbles};
+ghost use Rattle.scanning.specs.Place.{firstNoCharacter, firstNoNibble, isNowhere, allNibbles};
+ghost use Rattle.scanning.specs.Along.{testOf, failingAlong};
 ghost use Rattle.scanning.specs.Frame.{framed};
 ghost use Rattle.scanning.specs.declared.Place.the-variants.{Nowhere};
 
@@ -44,7 +45,7 @@ fn misfits(w: u16) -> u16
 // Whether every word from one place up to another is a nibble's. No word stops the loop, so that many are looked at at a time.
 fn are_nibbles(line: &[u16], from: usize, to: usize) -> bool
     requires { ⌜ to ≤ length (now line) ⌝ }
-    ensures { λ r. ⌜ r ≡ isNowhere (firstFailing isNibble (now (line .entry)) from (to - from)) ⌝ }
+    ensures { λ r. ⌜ r ≡ isNowhere (failingAlong isNibble (now (line .entry)) from (to - from)) ⌝ }
 {
     let mut bad: u16 = 0;
     let mut i = from;
@@ -58,7 +59,7 @@ fn are_nibbles(line: &[u16], from: usize, to: usize) -> bool
 // A place up to which all words are nibbles', sixteen at a time.
 fn pass_nibbles(line: &[u16], from: usize, to: usize) -> usize
     requires { ⌜ (from ≤ to) × (to ≤ length (now line)) ⌝ }
-    ensures { λ r. ⌜ (from ≤ r) × (r ≤ to) × (firstFailing isNibble (now (line .entry)) from (r - from) ≡ Nowhere) ⌝ }
+    ensures { λ r. ⌜ (from ≤ r) × (r ≤ to) × (failingAlong isNibble (now (line .entry)) from (r - from) ≡ Nowhere) ⌝ }
 {
     let mut i = from;
     while 16 <= to - i {
@@ -73,7 +74,7 @@ fn pass_nibbles(line: &[u16], from: usize, to: usize) -> usize
 // The first place from one up to another whose word fails the row's test.
 fn first_failing(line: &[u16], row: Row, from: usize, to: usize) -> Place
     requires { ⌜ to ≤ length (now line) ⌝ }
-    ensures { λ r. ⌜ r ≡ firstFailing (testOf row) (now (line .entry)) from (to - from) ⌝ }
+    ensures { λ r. ⌜ r ≡ failingAlong (testOf row) (now (line .entry)) from (to - from) ⌝ }
 {
     let mut i = from;
     while i < to {

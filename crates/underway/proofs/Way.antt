@@ -3,11 +3,12 @@ use mathlib.Core.Path.{_≡_, refl, sym, ap, _∙_}
 use mathlib.Core.Bool.{Bool, true, false, cond}
 use mathlib.Core.Logic.{⊎-elim}
 use mathlib.Core.List.{List, [], _∷_, _++_}
-use Prim.Native.Nat.{ℕ, _+_, _-_, _*_, _/_, _%_, _≤_, _<_}
-use native.Mathlib.Nat.{eq-zero-or-pos}
+use Prim.Native.Nat.{ℕ, zero, suc, _+_, _-_, _*_, _%_, _≤_, _<_}
+use native.Mathlib.Nat.{eq-zero-or-pos, sub-zero}
 use native.Mathlib.Omega.{arith}
 use lib.Dec.{eqb}
-use lib.ListN.{length, length-append}
+use lib.ListN.{length, drop, length-append, length-drop}
+use lib.Seq.{drop-nil}
 use Rattle.ground.proofs.Test.{below-or-not}
 use Rattle.questions.specs.Question.{goodQuestion}
 use Rattle.questions.specs.Shape.{shapeOf}
@@ -22,6 +23,20 @@ use Rattle.underway.specs.OnTheWay.{onTheWay}
 abbrev pub readOnWay : Question → (wire : List ℕ) → List ℕ
 readOnWay q wire = shapeOf q .first ∷ q .reg ∷ (wire ++ (0 ∷ []))
 
+-- the fill bytes that values have not yet taken the place of
+abbrev pub pairsLeft : Question → (wire : List ℕ) → List ℕ
+pairsLeft q wire = drop (length wire) (fillPairs (shapeOf q .values))
+
+-- of whole values they are whole pairs, one for each value still to come
+pub pairs-left : (n m : ℕ) → drop (2 * m) (fillPairs n) ≡ fillPairs (n - m)
+unfolding fillPairs
+pairs-left n zero = ap fillPairs (sym (sub-zero n))
+pairs-left zero (suc m) = let none : 0 - suc m ≡ 0 = omega arith in drop-nil (2 * suc m) ∙ sym (ap fillPairs none)
+pairs-left (suc n) (suc m) =
+    let two : 2 * suc m ≡ suc (suc (2 * m)) = omega arith in
+    let less : suc n - suc m ≡ n - m = omega arith in
+    ap (λ (k : ℕ). drop k (0xC2 ∷ 0xD3 ∷ fillPairs n)) two ∙ pairs-left n m ∙ sym (ap fillPairs less)
+
 module _ (q : Question) (count added : ℕ) (wire : List ℕ) where
   pub way-hello : q .kind ≡ 0 → onTheWay q count added wire ≡ shapeOf q .first ∷ 0 ∷ count ∷ []
   unfolding onTheWay
@@ -31,7 +46,7 @@ module _ (q : Question) (count added : ℕ) (wire : List ℕ) where
   unfolding onTheWay
   way-write lo hi = of-write (q .kind) _ _ _ lo hi
 
-  pub way-read : 3 ≤ q .kind → onTheWay q count added wire ≡ sealed q added (readOnWay q wire) ++ fillPairs (shapeOf q .values - length wire / 2)
+  pub way-read : 3 ≤ q .kind → onTheWay q count added wire ≡ sealed q added (readOnWay q wire) ++ pairsLeft q wire
   unfolding onTheWay
   way-read lo = of-read (q .kind) _ _ _ lo
 
@@ -55,11 +70,11 @@ module _ (q : Question) where
   pub sealed-most : (a : ℕ) (covered : List ℕ) → length (sealed q a covered) ≤ length covered + 2
   sealed-most a covered = omega (arith, sealed-size q a covered, alive-most a)
 
-  pub read-size : (a : ℕ) (w : List ℕ) → length (sealed q a (readOnWay q w) ++ fillPairs (shapeOf q .values - length w / 2))
-      ≡ 4 + length w + length (aliveByte q a) + 2 * (shapeOf q .values - length w / 2)
+  pub read-size : (a : ℕ) (w : List ℕ) → length (sealed q a (readOnWay q w) ++ pairsLeft q w)
+      ≡ 4 + length w + length (aliveByte q a) + (2 * shapeOf q .values - length w)
   read-size a w =
-      let pairs = fillPairs (shapeOf q .values - length w / 2) in
-      omega (arith, length-append (sealed q a (readOnWay q w)) pairs, sealed-size q a (readOnWay q w), length-append w (0 ∷ []), length-pairs (shapeOf q .values - length w / 2))
+      let pairs = fillPairs (shapeOf q .values) in
+      omega (arith, length-append (sealed q a (readOnWay q w)) (pairsLeft q w), sealed-size q a (readOnWay q w), length-append w (0 ∷ []), length-drop (length w) pairs, length-pairs (shapeOf q .values))
 
   -- a device hands on a line of equal length: its own value takes the place of a fill pair
   pub equal-length : (count count′ added added′ own m : ℕ) (wire : List ℕ) → length wire ≡ 2 * m → (3 ≤ q .kind → m < shapeOf q .values)

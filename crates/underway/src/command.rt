@@ -21,7 +21,7 @@ ghost use Rattle.underway.specs.Lay.{Holds};
 
 // A command on its way, at the front of the buffer.
 pub(crate) fn lay(q: Question, count: u8, added: u8, wire: &[u8], bytes: &mut [u8]) -> usize
-    requires { ⌜ (shapeOf q .first < 256) × (shapeOf q .values ≤ 32) × (length (now wire) ≤ 64) × (length (now bytes) ≡ 136) ⌝ }
+    requires { ⌜ (shapeOf q .first < 256) × (shapeOf q .values ≤ 32) × (length (now wire) ≤ 64) × (length (now wire) % 2 ≡ 0) × (length (now bytes) ≡ 136) ⌝ }
     ensures { λ r. ⌜ Holds (now (bytes .exit)) r (onTheWay q count added (now (wire .entry))) ⌝ }
 {
     let s = shape_of(q);

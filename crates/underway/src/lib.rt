@@ -15,7 +15,7 @@ use writing::put_line;
 ghost use mathlib.Core.Path.{_≡_};
 ghost use mathlib.Core.Bool.{true};
 ghost use mathlib.Core.List.{_++_};
-ghost use Prim.Native.Nat.{_+_, _*_, _≤_, _<_, suc};
+ghost use Prim.Native.Nat.{_+_, _*_, _%_, _≤_, _<_, suc};
 ghost use lib.ListN.{length};
 ghost use Rattle.ground.specs.Same.{same};
 ghost use Rattle.lines.specs.Line.{lineOf};
@@ -57,7 +57,7 @@ fn is_possible(q: Question, device: u8, m: usize) -> bool
 
 // Whether a line is the question's command as the devices before this one left it.
 fn is_as_left(q: Question, device: u8, wire: &[u8], line: &[u16]) -> bool
-    requires { ⌜ (goodQuestion q ≡ true) × (length (now wire) ≤ 64) ⌝ }
+    requires { ⌜ (goodQuestion q ≡ true) × (length (now wire) ≤ 64) × (length (now wire) % 2 ≡ 0) ⌝ }
     ensures { λ r. ⌜ r ≡ same (now (line .entry)) (lineOf (onTheWay q device 0 (now (wire .entry)))) ⌝ }
 {
     let mut bytes = buffer();
@@ -67,7 +67,7 @@ fn is_as_left(q: Question, device: u8, wire: &[u8], line: &[u16]) -> bool
 
 // The command as this device hands it on, in the line's place.
 fn hand(q: Question, device: u8, wire: &[u8], line: &mut [u16])
-    requires { ⌜ (goodQuestion q ≡ true) × (length (now wire) ≤ 64) × (device < 32) ⌝ }
+    requires { ⌜ (goodQuestion q ≡ true) × (length (now wire) ≤ 64) × (length (now wire) % 2 ≡ 0) × (device < 32) ⌝ }
     ensures { λ _. ⌜ now (line .exit) ≡ outOf (onTheWay q (suc device) 1 (now (wire .entry))) (now (line .entry)) ⌝ }
 {
     let mut bytes = buffer();

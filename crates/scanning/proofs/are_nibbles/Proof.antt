@@ -3,13 +3,14 @@ use mathlib.Core.Path.{_≡_, refl, sym, _∙_}
 use Prim.Native.Nat.{_-_}
 use native.Mathlib.Omega.{arith}
 use Rattle.characters.specs.Nibble.{isNibble}
-use Rattle.scanning.specs.Place.{firstFailing, isNowhere}
+use Rattle.scanning.specs.Place.{isNowhere}
+use Rattle.scanning.specs.Along.{failingAlong}
 use Rattle.scanning.proofs.Marks.{unmarked, no-more, one-more}
 use Rattle.scanning.proofs.are_nibbles.Statement.{statement}
 use Rattle.scanning.proofs.are_nibbles.Tie as tie
 
 abbrev Inv-loop : tie.InvT-loop
-Inv-loop line from to bad₀ i₀ bad i = unmarked isNibble line bad i to ≡ isNowhere (firstFailing isNibble line from (to - from))
+Inv-loop line from to bad₀ i₀ bad i = unmarked isNibble line bad i to ≡ isNowhere (failingAlong isNibble line from (to - from))
 
 abbrev μ-loop : tie.MeasureT-loop
 μ-loop line from to bad₀ i₀ bad i = to - i

@@ -3,13 +3,13 @@ use mathlib.Core.Path.{_≡_, refl, sym, _∙_}
 use Prim.Native.Nat.{_-_}
 use native.Mathlib.Omega.{arith}
 use borrow.Author.Tests.{not-true, not-false}
-use Rattle.scanning.specs.Place.{testOf, firstFailing}
+use Rattle.scanning.specs.Along.{testOf, failingAlong}
 use Rattle.scanning.proofs.FirstPlace.{scan-on, scan-here, scan-done}
 use Rattle.scanning.proofs.first_failing.Statement.{statement}
 use Rattle.scanning.proofs.first_failing.Tie as tie
 
 abbrev Inv-loop : tie.InvT-loop
-Inv-loop line row from to i₀ i = firstFailing (testOf row) line i (to - i) ≡ firstFailing (testOf row) line from (to - from)
+Inv-loop line row from to i₀ i = failingAlong (testOf row) line i (to - i) ≡ failingAlong (testOf row) line from (to - from)
 
 abbrev μ-loop : tie.MeasureT-loop
 μ-loop line row from to i₀ i = to - i

@@ -10,16 +10,15 @@ use borrow.Author.Tests.{not-true, not-false}
 use Rattle.characters.specs.Nibble.{isNibble}
 use Rattle.character_check.specs.Check.{isCharacter}
 use Rattle.character_check.proofs.Pass.{nibble-is-character}
-use Rattle.scanning.specs.Place.{firstFailing, firstNoCharacter}
-use Rattle.scanning.proofs.FirstPlace.{scan-on, scan-here, scan-done, skipped, weaker}
+use Rattle.scanning.specs.Along.{failingAlong}
+use Rattle.scanning.proofs.FirstPlace.{scan-on, scan-here, scan-done, skipped, weaker, characters-along}
 use Rattle.scanning.proofs.first_no_character.Statement.{statement}
 use Rattle.scanning.proofs.first_no_character.Tie as tie
 
 returns : tie.Need-returns
-unfolding firstNoCharacter
 returns c =
     let l = c .before .before .args .line .now in
-    sym (ap (firstFailing isCharacter l 0) (sym (sub-zero (length l))) ∙ scan-done isCharacter l 0 (length l) (omega arith))
+    sym (characters-along l ∙ ap (failingAlong isCharacter l 0) (sym (sub-zero (length l))) ∙ scan-done isCharacter l 0 (length l) (omega arith))
 
 shared-slice-read-is-character : tie.Need-shared-slice-read-is-character
 shared-slice-read-is-character c = search needs
@@ -28,11 +27,10 @@ is-character-requires : tie.Need-is-character-requires
 is-character-requires c κs = search needs
 
 returns-2 : tie.Need-returns-2
-unfolding firstNoCharacter
 returns-2 c =
     let l = c .before .before .before .before .before .args .line .now in
     let fails : isCharacter (getD l 0 0) ≡ false = sym (c .before .is-character .ensures) ∙ not-true (c .before .is-character .result) (c .if2 .taken) in
-    sym (ap (firstFailing isCharacter l 0) (sym (sub-zero (length l))) ∙ scan-here isCharacter l 0 (length l) (omega arith) fails)
+    sym (characters-along l ∙ ap (failingAlong isCharacter l 0) (sym (sub-zero (length l))) ∙ scan-here isCharacter l 0 (length l) (omega arith) fails)
 
 pass-nibbles-requires : tie.Need-pass-nibbles-requires
 pass-nibbles-requires c κs = search needs
@@ -41,7 +39,6 @@ first-failing-requires : tie.Need-first-failing-requires
 first-failing-requires c κs = search needs
 
 returns-3 : tie.Need-returns-3
-unfolding firstNoCharacter
 returns-3 c =
     let l = c .before .before .before .before .before .before .before .args .line .now in
     let character = c .before .before .before .is-character in
@@ -50,7 +47,7 @@ returns-3 c =
     let from = c .before .pass-nibbles .result in
     let characters = weaker isNibble isCharacter nibble-is-character l 1 (from - 1) (over .2) in
     c .first-failing .ensures ∙ skipped isCharacter l 1 from (length l) (over .0) (over .1) characters
-    ∙ sym (ap (firstFailing isCharacter l 0) (sym (sub-zero (length l))) ∙ scan-on isCharacter l 0 (length l) (omega (arith, over .0, over .1)) passes)
+    ∙ sym (characters-along l ∙ ap (failingAlong isCharacter l 0) (sym (sub-zero (length l))) ∙ scan-on isCharacter l 0 (length l) (omega (arith, over .0, over .1)) passes)
 
 pub first-no-character-spec : {M : Type 1} → statement M
 first-no-character-spec =

@@ -1,5 +1,5 @@
 -- `is_framed` meets its contract: each `return` says which end decided.
-use mathlib.Core.Path.{_≡_, refl, sym, ap}
+use mathlib.Core.Path.{_≡_, refl, sym, ap, _∙_}
 use mathlib.Core.Bool.{Bool, false, _&&_}
 use mathlib.Core.List.{List, [], _∷_}
 use Prim.Native.Nat.{ℕ, _-_}
@@ -9,6 +9,7 @@ use lib.ListN.{length, getD}
 use Rattle.characters.specs.Character.{preamble, stop}
 use borrow.Author.Tests.{eq-eqb, ne-eqb}
 use Rattle.scanning.specs.Frame.{framed}
+use Rattle.scanning.proofs.Ends.{framed-ends}
 use borrow.Author.Needs.{needs}
 use Rattle.scanning.proofs.is_framed.Statement.{statement}
 use Rattle.scanning.proofs.is_framed.Tie as tie
@@ -39,10 +40,9 @@ shared-slice-read-result : tie.Need-shared-slice-read-result
 shared-slice-read-result c = search needs
 
 returns-3 : tie.Need-returns-3
-unfolding framed
 returns-3 c =
     let l = c .before .before .before .before .args .line .now in
-    sym (ap (λ (t : Bool). t && eqb (getD l (length l - 1) 0) stop) (eq-eqb (getD l 0 0) preamble (c .before .if2 .left)))
+    sym (framed-ends l ∙ ap (λ (t : Bool). t && eqb (getD l (length l - 1) 0) stop) (eq-eqb (getD l 0 0) preamble (c .before .if2 .left)))
 
 pub is-framed-spec : {M : Type 1} → statement M
 is-framed-spec =

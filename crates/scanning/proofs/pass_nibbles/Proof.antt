@@ -4,14 +4,14 @@ use Prim.Native.Nat.{_+_, _-_, _≤_}
 use native.Mathlib.Omega.{arith}
 use borrow.Author.Tests.{not-false}
 use Rattle.characters.specs.Nibble.{isNibble}
-use Rattle.scanning.specs.Place.{firstFailing}
+use Rattle.scanning.specs.Along.{failingAlong}
 use Rattle.scanning.specs.declared.Place.the-variants.{Nowhere}
 use Rattle.scanning.proofs.FirstPlace.{scan-done, block-on}
 use Rattle.scanning.proofs.pass_nibbles.Statement.{statement}
 use Rattle.scanning.proofs.pass_nibbles.Tie as tie
 
 abbrev Inv-loop : tie.InvT-loop
-Inv-loop line from to i₀ i = (from ≤ i) × (i ≤ to) × (firstFailing isNibble line from (i - from) ≡ Nowhere)
+Inv-loop line from to i₀ i = (from ≤ i) × (i ≤ to) × (failingAlong isNibble line from (i - from) ≡ Nowhere)
 
 abbrev μ-loop : tie.MeasureT-loop
 μ-loop line from to i₀ i = to - i

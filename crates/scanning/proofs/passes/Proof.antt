@@ -1,6 +1,6 @@
 -- `passes` meets its contract: each arm is the test of its row.
 use mathlib.Core.Path.{sym, ap, _∙_}
-use Rattle.scanning.specs.Place.{testOf}
+use Rattle.scanning.specs.Along.{testOf}
 use Rattle.scanning.specs.declared.Row.{Row}
 use borrow.Author.Needs.{needs}
 use Rattle.scanning.proofs.passes.Statement.{statement}

@@ -19,7 +19,7 @@ slice-aggregate-lay : tie.Need-slice-aggregate-lay
 slice-aggregate-lay c = search needs
 
 lay-requires : tie.Need-lay-requires
-lay-requires c κs = let a = c .before .before .before .before .args in (good-first (a .q) (c .before .before .before .before .pre .0), good-values (a .q) (c .before .before .before .before .pre .0), c .before .before .before .before .pre .1, c .before .buffer .ensures)
+lay-requires c κs = let a = c .before .before .before .before .args in (good-first (a .q) (c .before .before .before .before .pre .0), good-values (a .q) (c .before .before .before .before .pre .0), c .before .before .before .before .pre .1, c .before .before .before .before .pre .2, c .before .buffer .ensures)
 
 array-share-prefix-bytes : tie.Need-array-share-prefix-bytes
 array-share-prefix-bytes c = omega (arith, holds-within (c .before .lay .ensures), c .before .lay .kept .1 .1 .1 .1 .0, c .before .before .before .buffer .ensures)

@@ -54,7 +54,8 @@ is-as-left-requires c κs =
     let line = a .line .now in
     let b = bounds (a .q) (a .device) (a .m) (sym (c .before .before .before .before .before .before .before .before .before .is-possible .ensures) ∙ not-false (c .before .before .before .before .before .before .before .before .before .is-possible .result) (c .before .before .before .before .before .before .before .before .if1 .left)) in
     let part = holds-behind (a .own % 256) (a .own / 256) (wireOf line (a .m)) (c .before .before .before .before .gather .ensures) in
-    (b .good, omega (arith, ap length part, length-tabulated (byteAt line) (2 * a .m) 2, b .values))
+    let size = length-tabulated (byteAt line) (2 * a .m) 2 in
+    (b .good, omega (arith, ap length part, size, b .values), omega (arith, ap length part, size))
 
 same-length : tie.Need-same-length
 same-length c = refl
@@ -80,7 +81,9 @@ hand-requires c κs =
     let line = a .line .now in
     let b = bounds (a .q) (a .device) (a .m) (sym (c .before .before .before .before .before .before .before .before .before .before .before .before .before .is-possible .ensures) ∙ not-false (c .before .before .before .before .before .before .before .before .before .before .before .before .before .is-possible .result) (c .before .before .before .before .before .before .before .before .before .before .before .before .if1 .left)) in
     let size = length-tabulated (byteAt line) (2 * a .m) 2 in
-    (b .good, omega (arith, ap length (c .before .before .before .before .before .before .before .before .gather .ensures .front), length-append (lowHigh (a .own)) (wireOf line (a .m)), size, b .values), b .place)
+    let front = ap length (c .before .before .before .before .before .before .before .before .gather .ensures .front) in
+    let own = length-append (lowHigh (a .own)) (wireOf line (a .m)) in
+    (b .good, omega (arith, front, own, size, b .values), omega (arith, front, own, size), b .place)
 
 same-length-2 : tie.Need-same-length-2
 same-length-2 c = search needs

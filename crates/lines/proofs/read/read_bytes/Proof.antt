@@ -1,5 +1,5 @@
 -- `read_bytes` meets its contract: the loop keeps the places passed at the line's bytes, and all else as it was.
-use mathlib.Core.Path.{_≡_, refl, ap, _∙_, subst⁻¹}
+use mathlib.Core.Path.{_≡_, refl, sym, ap, _∙_, subst⁻¹}
 use Prim.Native.Nat.{ℕ, _+_, _-_, _*_, _≤_, min}
 use native.Mathlib.Nat.{add-sub-cancel-left}
 use native.Mathlib.Omega.{arith}
@@ -8,7 +8,8 @@ use lib.ListN.{length}
 use lib.Seq.{sets, length-sets}
 use Rattle.ground.specs.Sweep.{tabulated}
 use Rattle.ground.proofs.Lists.{filled-room}
-use Rattle.lines.specs.Line.{byteAt, byteCount, bytesOf}
+use Rattle.lines.specs.Line.{byteAt}
+use Rattle.lines.proofs.Line.{byteCount, length-bytes, bytes-by-place}
 use Rattle.lines.proofs.Nibbles.{within, put}
 use Rattle.lines.proofs.read.read_bytes.Statement.{statement}
 use Rattle.lines.proofs.read.read_bytes.Tie as tie
@@ -29,7 +30,7 @@ least-requires c κs = tt
 loop-holds : tie.Need-loop-holds Inv-loop μ-loop
 loop-holds c =
     let a = c .before .before .before .before .args in
-    (c .least .ensures ∙ ap (λ (n : ℕ). min n (length (a .out .now))) (c .before .byte-count .ensures), omega arith, refl, refl)
+    (c .least .ensures ∙ ap (λ (n : ℕ). min n (length (a .out .now))) (c .before .byte-count .ensures ∙ length-bytes (a .line .now)), omega arith, refl, refl)
 
 sub-least : tie.Need-sub-least Inv-loop μ-loop
 sub-least c = omega arith
@@ -117,13 +118,12 @@ same-length : tie.Need-same-length Inv-loop μ-loop
 same-length c = c .before .loop .inv .3
 
 returns : tie.Need-returns Inv-loop μ-loop
-unfolding bytesOf
 returns c =
     let a = c .before .before .before .before .before .before .args in
     let at = c .before .loop in
     let all : at .k ≡ min (byteCount (a .line .now)) (length (a .out .now)) = omega (arith, at .inv .0, at .inv .1, c .loop-test .left) in
     at .inv .2 ∙ ap (λ (n : ℕ). sets (a .out .now) 0 (tabulated (byteAt (a .line .now)) n 0)) all
-    ∙ filled-room (byteAt (a .line .now)) (a .out .now) (byteCount (a .line .now))
+    ∙ filled-room (byteAt (a .line .now)) (a .out .now) (byteCount (a .line .now)) ∙ ap (sets (a .out .now) 0) (sym (bytes-by-place (a .line .now)))
 
 pub read-bytes-spec : {M : Type 1} → statement M
 read-bytes-spec =

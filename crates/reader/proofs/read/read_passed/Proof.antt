@@ -5,9 +5,8 @@ use Prim.Native.Nat.{ℕ}
 use native.Mathlib.Omega.{arith}
 use lib.ListN.{length, take, drop, length-append}
 use lib.Seq.{length-take-le, take-at}
-use Rattle.lines.specs.Line.{byteCount}
 use Rattle.lines.specs.Write.{atFront}
-use Rattle.lines.proofs.Line.{all-read}
+use Rattle.lines.proofs.Line.{byteCount, all-read}
 use Rattle.readings.specs.Reading.{valuesTaken}
 use Rattle.contents.specs.InOrder.{judgeBytes}
 use Rattle.judging.proofs.Screening.{passed-is-judged}
