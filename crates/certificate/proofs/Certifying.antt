@@ -9,7 +9,9 @@ use lib.ListN.{length, drop, length-drop, length-map}
 use borrow.Author.Tests.{le-leb}
 use Rattle.lines.specs.Write.{atFront, leftBy}
 use Rattle.jobs.specs.declared.Header.{Header}
+use Rattle.jobs.specs.Format.{headSize}
 use Rattle.jobs.specs.Check.{entriesIn, goodFile, headerIn}
+use Rattle.jobs.proofs.Sizes.{head-bounds}
 use Rattle.jobs.proofs.Entries.{few-entries, parts}
 use Rattle.printing.specs.Text.{certificateText}
 use Rattle.printing.specs.Print.{mostEntries, printedOf, printedNumber, PrintDone}
@@ -29,16 +31,17 @@ turned-away file text bad =
 -- a good file has no more entries than can be printed
 pub countable : (file : List ℕ) → goodFile file ≡ true → length (numbersOf (heardIn file)) ≤ mostEntries
 countable file ok =
-    let entries = entriesIn (drop 7 file) in
+    let entries = entriesIn (drop headSize file) in
     let p = parts file ok in
     omega (
       arith,
       length-map (heardIn file) numberFor,
       length-map entries (heardOf (headerIn file)),
-      few-entries (headerIn file) (drop 7 file) (p .entries),
-      length-drop 7 file,
+      few-entries (headerIn file) (drop headSize file) (p .entries),
+      length-drop headSize file,
       p .size,
       p .long,
+      head-bounds .0,
     )
 
 pub certified : (h : Header) (file text text′ : List ℕ) (r : Printed) → goodFile file ≡ true → h ≡ headerIn file

@@ -12,7 +12,7 @@ use Rattle.readings.specs.Reading.{numberOf, valuesTaken}
 use Rattle.judging.specs.Judge.{judgeOf}
 use Rattle.reader.specs.Read.{valuesOn}
 use Rattle.jobs.specs.declared.Header.{Header}
-use Rattle.jobs.specs.Format.{Entry, asked}
+use Rattle.jobs.specs.Format.{Entry, headSize, asked}
 use Rattle.jobs.specs.Check.{headerIn, entriesIn, goodFile}
 use Rattle.letters.specs.declared.Standing.{Standing}
 use Rattle.letters.specs.Letters.{Heard, standingAfter}
@@ -30,7 +30,7 @@ heardOf h e = heardAs (asked h e) (e .words)
 
 -- the entries of a file heard, in their order
 abbrev pub heardIn : (file : List ℕ) → List Heard
-heardIn file = map (heardOf (headerIn file)) (entriesIn (drop 7 file))
+heardIn file = map (heardOf (headerIn file)) (entriesIn (drop headSize file))
 
 -- the number of each entry: 0 for accepted
 abbrev pub numberFor : Heard → ℕ

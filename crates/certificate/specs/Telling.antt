@@ -1,10 +1,10 @@
 -- The entries told one after the other.
 use mathlib.Core.Path.{_≡_}
 use mathlib.Core.List.{List}
-use Prim.Native.Nat.{ℕ, _+_, _*_, _≤_}
+use Prim.Native.Nat.{ℕ, _+_, _≤_}
 use lib.ListN.{length, take, drop, set}
 use Rattle.jobs.specs.declared.Header.{Header}
-use Rattle.jobs.specs.Check.{wordsIn, entryIn}
+use Rattle.jobs.specs.Check.{sizeIn, entryIn}
 use Rattle.letters.specs.declared.Standing.{Standing}
 use Rattle.letters.specs.Letters.{Heard, hearOf}
 use Rattle.printing.specs.declared.Printed.{Printed}
@@ -25,7 +25,7 @@ heardHere h front = heardOf h (entryIn front)
 
 -- one entry more
 pub record ToldOne (h : Header) (file : List ℕ) (told : Told) (before after : List ℕ) (r : Told) : Type 0 where
-  pub at : r .at ≡ told .at + 8 + 2 * wordsIn (drop (told .at) file)
+  pub at : r .at ≡ told .at + sizeIn (drop (told .at) file)
   pub entries : r .entries ≡ told .entries + 1
   pub standing : r .standing ≡ heardNow (told .standing) (heardHere h (drop (told .at) file)) .standing
   pub numbers : after ≡ set before (told .entries) (numberFor (heardHere h (drop (told .at) file)))

@@ -6,6 +6,7 @@ use jobs::Cursor;
 use jobs::EntryAt;
 use jobs::Header;
 use jobs::Next;
+use jobs::first;
 use jobs::next_entry;
 use letters::Standing;
 use letters::begin;
@@ -29,8 +30,9 @@ pub(crate) fn tell(header: Header, file: &[u8], numbers: &mut [u8]) -> Told
     requires { ⌜ (goodFile (now file) ≡ true) × (header ≡ headerIn (now file)) × (length (now numbers) ≡ mostEntries) ⌝ }
     ensures { λ r. ⌜ ToldAll (now (file .entry)) (now (numbers .exit)) r ⌝ }
 {
+    let start = first();
     let mut told = Told {
-        at: 7,
+        at: start.at,
         entries: 0,
         standing: begin(),
     };

@@ -5,6 +5,7 @@ use Rattle.ground.specs.Agree.{Settled}
 use Rattle.jobs.proofs.«open».Reads as open-file
 use Rattle.jobs.proofs.opened_number.Reads as opened-number
 use Rattle.jobs.proofs.first.Reads as first
+use Rattle.jobs.proofs.field_size.Reads as field-size
 use Rattle.jobs.proofs.next_entry.Reads as next-entry
 use Rattle.jobs.proofs.next_number.Reads as next-number
 
@@ -16,6 +17,9 @@ opened-number-settled l given r r′ left left′ p q = p ∙ sym q
 
 pub first-settled : Settled first.Post
 first-settled l given r r′ left left′ p q = ap (λ (k : ℕ). record { at = k }) (p ∙ sym q)
+
+pub field-size-settled : Settled field-size.Post
+field-size-settled l given r r′ left left′ p q = p ∙ sym q
 
 pub next-entry-settled : Settled next-entry.Post
 next-entry-settled l given r r′ left left′ p q = p ∙ sym q

@@ -8,6 +8,7 @@ use lib.ListN.{length, drop, length-drop}
 use Rattle.ground.proofs.Test.{and-left, and-right}
 use Rattle.jobs.specs.declared.Header.{Header}
 use Rattle.jobs.specs.Check.{sizeIn, goodEntry, goodEntries}
+use Rattle.jobs.proofs.Sizes.{field-bounds}
 use Rattle.jobs.proofs.Walk.{one-entry}
 
 module _ (h : Header) (P : List ℕ → Type 0) (nothing : P [])
@@ -19,7 +20,7 @@ module _ (h : Header) (P : List ℕ → Type 0) (nothing : P [])
       let front = b ∷ bytes in
       let both = sym (one-entry true (λ (f : List ℕ) (later : Bool). goodEntry h f && later) front (omega arith)) ∙ ok in
       step front (omega arith) (and-left (goodEntry h front) _ both)
-      (shorter (drop (sizeIn front) front) (omega (arith, length-drop (sizeIn front) front)) (and-right (goodEntry h front) _ both))
+      (shorter (drop (sizeIn front) front) (omega (arith, length-drop (sizeIn front) front, field-bounds .0)) (and-right (goodEntry h front) _ both))
 
   below : (most : ℕ) (bytes : List ℕ) → length bytes < most → goodEntries h bytes ≡ true → P bytes
   below zero bytes short ok = absurd (omega arith)

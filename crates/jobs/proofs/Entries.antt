@@ -9,10 +9,11 @@ use lib.ListN.{length, drop, length-drop}
 use borrow.Author.Tests.{leb-true}
 use Rattle.ground.proofs.Test.{and-left, and-right}
 use Rattle.jobs.specs.declared.Header.{Header}
-use Rattle.jobs.specs.Format.{Entry}
+use Rattle.jobs.specs.Format.{Entry, headSize}
 use Rattle.jobs.specs.Rules.{goodHeader}
 use Rattle.jobs.specs.declared.Opened.the-variants as opened
-use Rattle.jobs.specs.Check.{wordsIn, sizeIn, entryIn, goodEntry, goodEntries, entriesIn, marked, headerIn, goodFile, openedOf}
+use Rattle.jobs.specs.Check.{sizeIn, entryIn, goodEntry, goodEntries, entriesIn, marked, headerIn, goodFile, openedOf}
+use Rattle.jobs.proofs.Sizes.{field-bounds}
 use Rattle.jobs.proofs.Walk.{no-bytes, one-entry, walk-here, walk-over}
 use Rattle.jobs.proofs.EachEntry.{each-entry}
 use Rattle.jobs.proofs.GoodEntry.{good}
@@ -20,15 +21,15 @@ use Rattle.jobs.proofs.GoodEntry.{good}
 module _ (h : Header) (file : List ℕ) (at : ℕ) where
   -- a good entry, and the rest behind it
   pub good-here : at < length file → goodEntry h (drop at file) ≡ true
-      → goodEntries h (drop at file) ≡ goodEntries h (drop (at + 8 + 2 * wordsIn (drop at file)) file)
+      → goodEntries h (drop at file) ≡ goodEntries h (drop (at + sizeIn (drop at file)) file)
   good-here here e =
       walk-here true (λ (front : List ℕ) (later : Bool). goodEntry h front && later) file at here
-      ∙ ap (λ (t : Bool). t && goodEntries h (drop (at + 8 + 2 * wordsIn (drop at file)) file)) e
+      ∙ ap (λ (t : Bool). t && goodEntries h (drop (at + sizeIn (drop at file)) file)) e
 
   pub bad-here : at < length file → goodEntry h (drop at file) ≡ false → goodEntries h (drop at file) ≡ false
   bad-here here e =
       walk-here true (λ (front : List ℕ) (later : Bool). goodEntry h front && later) file at here
-      ∙ ap (λ (t : Bool). t && goodEntries h (drop (at + 8 + 2 * wordsIn (drop at file)) file)) e
+      ∙ ap (λ (t : Bool). t && goodEntries h (drop (at + sizeIn (drop at file)) file)) e
 
   -- of good entries the first is good
   pub first-good : at < length file → goodEntries h (drop at file) ≡ true → goodEntry h (drop at file) ≡ true
@@ -39,13 +40,13 @@ pub no-more-good : (h : Header) (file : List ℕ) (at : ℕ) → length file ≤
 no-more-good h file at over = walk-over true (λ (front : List ℕ) (later : Bool). goodEntry h front && later) file at over
 
 pub entries-here : (file : List ℕ) (at : ℕ) → at < length file
-    → entriesIn (drop at file) ≡ entryIn (drop at file) ∷ entriesIn (drop (at + 8 + 2 * wordsIn (drop at file)) file)
+    → entriesIn (drop at file) ≡ entryIn (drop at file) ∷ entriesIn (drop (at + sizeIn (drop at file)) file)
 entries-here file at here = walk-here [] (λ (front : List ℕ) (later : List Entry). entryIn front ∷ later) file at here
 
 pub no-more-entries : (file : List ℕ) (at : ℕ) → length file ≤ at → entriesIn (drop at file) ≡ []
 no-more-entries file at over = walk-over [] (λ (front : List ℕ) (later : List Entry). entryIn front ∷ later) file at over
 
--- an entry has 8 bytes at least
+-- whatever its size, an entry has 8 bytes at least
 pub few-entries : (h : Header) (bytes : List ℕ) → goodEntries h bytes ≡ true → 8 * length (entriesIn bytes) ≤ length bytes
 few-entries h =
     each-entry h (λ (bytes : List ℕ). 8 * length (entriesIn bytes) ≤ length bytes) no-bytes
@@ -54,6 +55,7 @@ few-entries h =
       rest,
       good h front ok .whole,
       length-drop (sizeIn front) front,
+      field-bounds .0,
       ap length (one-entry [] (λ (f : List ℕ) (l : List Entry). entryIn f ∷ l) front some),
     ))
 
@@ -61,23 +63,23 @@ few-entries h =
 
 pub record Parts (file : List ℕ) : Type 0 where
   pub size : length file ≤ 65536
-  pub long : 7 ≤ length file
+  pub long : headSize ≤ length file
   pub mark : marked file ≡ true
   pub header : goodHeader (headerIn file) ≡ true
-  pub entries : goodEntries (headerIn file) (drop 7 file) ≡ true
+  pub entries : goodEntries (headerIn file) (drop headSize file) ≡ true
 
 pub parts : (file : List ℕ) → goodFile file ≡ true → Parts file
 unfolding goodFile
 parts file ok =
-    let four = and-left _ (goodEntries (headerIn file) (drop 7 file)) ok in
+    let four = and-left _ (goodEntries (headerIn file) (drop headSize file)) ok in
     let three = and-left _ (goodHeader (headerIn file)) four in
     let two = and-left _ (marked file) three in
     record {
-      size = leb-true (length file) 65536 (and-left _ (leb 7 (length file)) two);
-      long = leb-true 7 (length file) (and-right (leb (length file) 65536) _ two);
-      mark = and-right (leb (length file) 65536 && leb 7 (length file)) _ three;
-      header = and-right (leb (length file) 65536 && leb 7 (length file) && marked file) _ four;
-      entries = and-right (leb (length file) 65536 && leb 7 (length file) && marked file && goodHeader (headerIn file)) _ ok;
+      size = leb-true (length file) 65536 (and-left _ (leb headSize (length file)) two);
+      long = leb-true headSize (length file) (and-right (leb (length file) 65536) _ two);
+      mark = and-right (leb (length file) 65536 && leb headSize (length file)) _ three;
+      header = and-right (leb (length file) 65536 && leb headSize (length file) && marked file) _ four;
+      entries = and-right (leb (length file) 65536 && leb headSize (length file) && marked file && goodHeader (headerIn file)) _ ok;
     }
 
 -- what `open` says, taken apart

@@ -2,15 +2,16 @@
 use mathlib.Core.Path.{_≡_, refl, ap, ap₂, _∙_}
 use mathlib.Core.Bool.{Bool, true, false, cond, _&&_}
 use mathlib.Core.List.{List, [], _∷_}
-use Prim.Native.Nat.{ℕ, _*_, _<_, _≤_}
+use Prim.Native.Nat.{ℕ, _+_, _*_, _<_, _≤_}
 use native.Mathlib.Omega.{arith}
 use lib.Dec.{leb}
 use lib.ListN.{length, take, drop, length-take, length-drop}
 use borrow.Author.Tests.{leb-true, le-leb}
 use Rattle.ground.proofs.Test.{and-left, and-right, refuted}
 use Rattle.packing.proofs.Back.{length-words}
+use Rattle.questions.specs.declared.question.Question.{Question}
 use Rattle.jobs.specs.declared.Header.{Header}
-use Rattle.jobs.specs.Format.{asked}
+use Rattle.jobs.specs.Format.{fieldSize, asked}
 use Rattle.jobs.specs.Rules.{keepsRules, unusedAreZero}
 use Rattle.jobs.specs.declared.Next.the-variants as next
 use Rattle.jobs.specs.Check.{wordsIn, sizeIn, entryIn, askedIn, goodEntry, placedIn, nextIn}
@@ -18,8 +19,8 @@ use Rattle.jobs.specs.Check.{wordsIn, sizeIn, entryIn, askedIn, goodEntr
 -- an entry that is not cut short has as many words as it says
 pub words-number : (front : List ℕ) → sizeIn front ≤ length front → length (entryIn front .words) ≡ wordsIn front
 words-number front fits =
-    let part = take (2 * wordsIn front) (drop 8 front) in
-    omega (arith, length-words part, length-take (2 * wordsIn front) (drop 8 front), length-drop 8 front)
+    let part = take (2 * wordsIn front) (drop fieldSize front) in
+    omega (arith, length-words part, length-take (2 * wordsIn front) (drop fieldSize front), length-drop fieldSize front)
 
 -- what holds of a good entry
 pub record Good (h : Header) (front : List ℕ) : Type 0 where
@@ -32,8 +33,8 @@ pub record Good (h : Header) (front : List ℕ) : Type 0 where
 pub good : (h : Header) (front : List ℕ) → goodEntry h front ≡ true → Good h front
 unfolding goodEntry keepsRules
 good h front e =
-    let fits = leb-true (sizeIn front) (length front) (and-right (leb 8 (length front)) _ (and-left _ _ e)) in
-    let rules = and-right (leb 8 (length front) && leb (sizeIn front) (length front)) _ e in
+    let fits = leb-true (sizeIn front) (length front) (and-right (leb fieldSize (length front)) _ (and-left _ _ e)) in
+    let rules = and-right (leb fieldSize (length front) && leb (sizeIn front) (length front)) _ e in
     record {
       whole = fits;
       words = omega (arith, words-number front fits, leb-true (length (entryIn front .words)) 140 (and-left _ _ (and-left _ _ rules)));
@@ -43,7 +44,7 @@ good h front e =
     }
 
 module _ (h : Header) (front : List ℕ) where
-  pub too-short : length front < 8 → goodEntry h front ≡ false
+  pub too-short : length front < fieldSize → goodEntry h front ≡ false
   too-short short = refuted (goodEntry h front) (λ e. absurd (omega (arith, good h front e .whole)))
 
   pub cut-short : length front < sizeIn front → goodEntry h front ≡ false
@@ -57,7 +58,7 @@ module _ (h : Header) (front : List ℕ) where
   unfolding goodEntry keepsRules
   of-its-fields whole words =
       ap₂ (λ (t u : Bool). t && leb (sizeIn front) (length front) && (u && leb (entryIn front .kind) 4 && unusedAreZero (askedIn h front)))
-      (le-leb 8 (length front) (omega arith)) (le-leb (length (entryIn front .words)) 140 (omega (arith, words-number front whole)))
+      (le-leb fieldSize (length front) (omega arith)) (le-leb (length (entryIn front .words)) 140 (omega (arith, words-number front whole)))
       ∙ ap (λ (t : Bool). t && (leb (entryIn front .kind) 4 && unusedAreZero (askedIn h front))) (le-leb (sizeIn front) (length front) whole)
 
   -- the answer at a place where bytes are left
@@ -67,3 +68,11 @@ module _ (h : Header) (front : List ℕ) where
       by-bytes : (l : List ℕ) → 0 < length l → nextIn h at l ≡ cond (goodEntry h l) (placedIn h at l) next.File
       by-bytes [] some = absurd (omega arith)
       by-bytes (b ∷ l) some = refl
+
+  -- and where it stands, from its question, the size of its fields and the number of its words
+  pub placed-is : (at : ℕ) (q : Question) (fields words : ℕ) → q ≡ askedIn h front → fields ≡ fieldSize → words ≡ wordsIn front
+      → next.Entry (record { question = q; start = at + fields; words = words }) (record { at = at + fields + 2 * words }) ≡ placedIn h at front
+  placed-is at q fields words asks size number =
+      let behind : at + fields + 2 * words ≡ at + sizeIn front = omega (arith, size, number) in
+      ap₂ (λ (x : Question) (k : ℕ). next.Entry (record { question = x; start = at + fields; words = words }) (record { at = k })) asks behind
+      ∙ ap₂ (λ (k w : ℕ). next.Entry (record { question = askedIn h front; start = at + k; words = w }) (record { at = at + sizeIn front })) size number

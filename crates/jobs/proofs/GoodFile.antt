@@ -12,7 +12,7 @@ use Rattle.ground.proofs.Test.{and-left, and-right}
 use Rattle.ground.proofs.Lists.{tabulated-front}
 use Rattle.remainder.specs.Turned.{Bytes}
 use Rattle.jobs.specs.declared.Header.{Header}
-use Rattle.jobs.specs.Format.{Entry, entryBytes, entriesBytes, fileBytes}
+use Rattle.jobs.specs.Format.{Entry, headSize, entryBytes, entriesBytes, fileBytes}
 use Rattle.jobs.specs.Rules.{goodHeader}
 use Rattle.jobs.specs.Check.{sizeIn, entryIn, goodEntry, goodEntries, entriesIn, walkFrom, pairAt, marked, headerIn, goodFile}
 use Rattle.jobs.specs.Encoded.{AllKeep, none, more, Encodes}
@@ -50,18 +50,19 @@ module _ (h : Header) (es : List Entry) (file : List ℕ) (written : Encodes h e
   pub header-read : headerIn file ≡ h
   header-read = ap headerIn (written .written)
 
-  pub entries-read : entriesIn (drop 7 file) ≡ es
-  entries-read = ap (λ (f : List ℕ). entriesIn (drop 7 f)) (written .written) ∙ entries-back h es (written .entries)
+  pub entries-read : entriesIn (drop headSize file) ≡ es
+  unfolding headSize
+  entries-read = ap (λ (f : List ℕ). entriesIn (drop headSize f)) (written .written) ∙ entries-back h es (written .entries)
 
   -- AN ENCODING IS GOOD
   pub encoded-is-good : goodFile file ≡ true
-  unfolding goodFile marked
+  unfolding goodFile marked headSize
   encoded-is-good =
       let is = written .written in
       let bytes = fileBytes h es in
       let size : length bytes ≤ 65536 = subst (λ (f : List ℕ). length f ≤ 65536) is (written .size) in
       ap goodFile is
-      ∙ ap₂ (λ (t u : Bool). t && u && marked bytes && goodHeader h && goodEntries h (entriesBytes es)) (le-leb (length bytes) 65536 size) (le-leb 7 (length bytes) (omega arith))
+      ∙ ap₂ (λ (t u : Bool). t && u && marked bytes && goodHeader h && goodEntries h (entriesBytes es)) (le-leb (length bytes) 65536 size) (le-leb headSize (length bytes) (omega arith))
       ∙ ap₂ (λ (t u : Bool). t && u) (written .header) (entries-good h es (written .entries))
 
 -- AN ENCODING IS OF ONLY ONE HEADER AND LIST OF ENTRIES
@@ -100,13 +101,13 @@ entries-again h =
     })
 
 -- A GOOD FILE IS AN ENCODING, of the header and the entries that the check reads off it
-pub good-is-encoded : (file : List ℕ) → Bytes file → goodFile file ≡ true → Encodes (headerIn file) (entriesIn (drop 7 file)) file
-unfolding marked
+pub good-is-encoded : (file : List ℕ) → Bytes file → goodFile file ≡ true → Encodes (headerIn file) (entriesIn (drop headSize file)) file
+unfolding marked headSize
 good-is-encoded file small ok =
     let h = headerIn file in
     let is = parts file ok in
     let mark = is .mark in
-    let rest = entries-again h (drop 7 file) (is .entries) (drop-bytes 7 file small) in
+    let rest = entries-again h (drop headSize file) (is .entries) (drop-bytes headSize file small) in
     let low : getD file 3 0 < 256 = small 3 in
     let version = eqb-true (pairAt file 3 4) 1 (and-right (eqb (getD file 0 0) 0x42 && eqb (getD file 1 0) 0x4D && eqb (getD file 2 0) 0x43) _ mark) in
     let b0 = eqb-true (getD file 0 0) 0x42 (and-left _ _ (and-left _ _ (and-left _ _ mark))) in
@@ -117,9 +118,9 @@ good-is-encoded file small ok =
     let made : ℕ → ℕ → ℕ → ℕ → ℕ → List ℕ → List ℕ = λ a b c d e l. a ∷ b ∷ c ∷ d ∷ e ∷ h .n ∷ h .alive ∷ l in
     record {
       written =
-          tabulated-front 7 file (is .long)
-          ∙ ap₂ (λ (a b : ℕ). made a b (getD file 2 0) (getD file 3 0) (getD file 4 0) (drop 7 file)) b0 b1
-          ∙ ap₂ (λ (a b : ℕ). made 0x42 0x4D a b (getD file 4 0) (drop 7 file)) b2 b3
+          tabulated-front headSize file (is .long)
+          ∙ ap₂ (λ (a b : ℕ). made a b (getD file 2 0) (getD file 3 0) (getD file 4 0) (drop headSize file)) b0 b1
+          ∙ ap₂ (λ (a b : ℕ). made 0x42 0x4D a b (getD file 4 0) (drop headSize file)) b2 b3
           ∙ ap₂ (λ (a : ℕ) (l : List ℕ). made 0x42 0x4D 0x43 1 a l) b4 (sym (rest .again));
       header = is .header;
       entries = rest .keep;

@@ -1,3 +1,4 @@
+pub mod Sizes
 pub mod Walk
 mod EachEntry
 mod GoodEntry

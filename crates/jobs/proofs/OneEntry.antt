@@ -14,7 +14,7 @@ use Rattle.remainder.specs.Turned.{Bytes}
 use Rattle.packing.specs.Words.{wordsOf, asBytes}
 use Rattle.packing.proofs.Back.{length-bytes, words-back, bytes-back, words-wide}
 use Rattle.jobs.specs.declared.Header.{Header}
-use Rattle.jobs.specs.Format.{Entry, entryBytes}
+use Rattle.jobs.specs.Format.{Entry, fieldSize, entryBytes}
 use Rattle.jobs.specs.Rules.{keepsRules}
 use Rattle.jobs.specs.Encoded.{Fits}
 use Rattle.jobs.specs.Check.{wordsIn, sizeIn, entryIn, goodEntry}
@@ -30,10 +30,12 @@ module _ (e : Entry) (fits : Fits e) (rest : List ℕ) where
   says-words = omega arith
 
   pub entry-size : sizeIn bytes ≡ length (entryBytes e)
+  unfolding fieldSize
   entry-size = omega (arith, says-words, length-bytes (e .words))
 
   -- the entry read is the entry written
   pub entry-back : entryIn bytes ≡ e
+  unfolding fieldSize
   entry-back =
       let value : e .value % 256 + 256 * (e .value / 256) ≡ e .value = omega arith in
       let many : 2 * wordsIn bytes ≡ length (asBytes (e .words)) = omega (arith, says-words, length-bytes (e .words)) in
@@ -50,7 +52,7 @@ module _ (e : Entry) (fits : Fits e) (rest : List ℕ) where
   unfolding goodEntry
   entry-good h rules =
       let size = length-append (entryBytes e) rest in
-      ap₂ (λ (t u : Bool). t && u && keepsRules h (entryIn bytes)) (le-leb 8 (length bytes) (omega arith)) (le-leb (sizeIn bytes) (length bytes) (omega (arith, entry-size, size)))
+      ap₂ (λ (t u : Bool). t && u && keepsRules h (entryIn bytes)) (le-leb fieldSize (length bytes) (omega (arith, entry-size, size))) (le-leb (sizeIn bytes) (length bytes) (omega (arith, entry-size, size)))
       ∙ ap (keepsRules h) entry-back ∙ rules
 
 -- ---- what is read, written again
@@ -67,13 +69,13 @@ drop-bytes n l small i = subst (λ (b : ℕ). b < 256) (sym (getD-drop n l i 0))
 
 module _ (front : List ℕ) (small : Bytes front) (whole : sizeIn front ≤ length front) where
   abbrev answer : List ℕ
-  answer = take (2 * wordsIn front) (drop 8 front)
+  answer = take (2 * wordsIn front) (drop fieldSize front)
 
   answer-length : length answer ≡ 2 * wordsIn front
-  answer-length = omega (arith, length-take (2 * wordsIn front) (drop 8 front), length-drop 8 front)
+  answer-length = omega (arith, length-take (2 * wordsIn front) (drop fieldSize front), length-drop fieldSize front)
 
   answer-bytes : Bytes answer
-  answer-bytes = take-bytes (2 * wordsIn front) (drop 8 front) (drop-bytes 8 front small)
+  answer-bytes = take-bytes (2 * wordsIn front) (drop fieldSize front) (drop-bytes fieldSize front small)
 
   entry-fits : Fits (entryIn front)
   entry-fits =
@@ -82,6 +84,7 @@ module _ (front : List ℕ) (small : Bytes front) (whole : sizeIn front ≤ leng
       record { kind = small 0; reg = small 1; device = small 4; seed = small 5; value = omega arith; words = words-wide answer answer-bytes }
 
   entry-again : entryBytes (entryIn front) ++ drop (sizeIn front) front ≡ front
+  unfolding fieldSize
   entry-again =
       let e = entryIn front in
       let low : getD front 2 0 < 256 = small 2 in
@@ -93,14 +96,14 @@ module _ (front : List ℕ) (small : Bytes front) (whole : sizeIn front ≤ leng
       let v1 : e .value / 256 ≡ getD front 3 0 = omega arith in
       let n0 : length (e .words) % 256 ≡ getD front 6 0 = omega (arith, number) in
       let n1 : length (e .words) / 256 ≡ getD front 7 0 = omega (arith, number) in
-      let tail : asBytes (e .words) ++ drop (sizeIn front) front ≡ drop 8 front =
-      ap₂ (λ (x y : List ℕ). x ++ y) (bytes-back answer (wordsIn front) answer-length answer-bytes) (sym (drop-drop (2 * wordsIn front) 8 front)) ∙ take-append-drop (2 * wordsIn front) (drop 8 front) in
+      let tail : asBytes (e .words) ++ drop (sizeIn front) front ≡ drop fieldSize front =
+      ap₂ (λ (x y : List ℕ). x ++ y) (bytes-back answer (wordsIn front) answer-length answer-bytes) (sym (drop-drop (2 * wordsIn front) fieldSize front)) ∙ take-append-drop (2 * wordsIn front) (drop fieldSize front) in
       let made : ℕ → ℕ → ℕ → ℕ → List ℕ → List ℕ =
       λ a b c d rest. getD front 0 0 ∷ getD front 1 0 ∷ a ∷ b ∷ getD front 4 0 ∷ getD front 5 0 ∷ c ∷ d ∷ rest in
       ap₂ (λ (a b : ℕ). made a b (length (e .words) % 256) (length (e .words) / 256) (asBytes (e .words) ++ drop (sizeIn front) front)) v0 v1
       ∙ ap₂ (λ (c d : ℕ). made (getD front 2 0) (getD front 3 0) c d (asBytes (e .words) ++ drop (sizeIn front) front)) n0 n1
       ∙ ap (made (getD front 2 0) (getD front 3 0) (getD front 6 0) (getD front 7 0)) tail
-      ∙ sym (tabulated-front 8 front (omega arith))
+      ∙ sym (tabulated-front fieldSize front (omega arith))
 
 -- A GOOD ENTRY IS AN ENCODING, of the entry that is read off it, with the rest behind
 pub record Written (h : Header) (front : List ℕ) : Type 0 where

@@ -16,7 +16,8 @@ use Rattle.jobs.specs.declared.Cursor.{Cursor}
 use Rattle.jobs.specs.declared.Opened.{Opened}
 use Rattle.jobs.specs.declared.Next.{Next}
 use Rattle.jobs.specs.declared.Next.the-variants as next
-use Rattle.jobs.specs.Check.{wordsIn, entryIn, askedIn, goodEntry, goodEntries, placedIn, nextOf, goodFile, openedOf}
+use Rattle.jobs.specs.Format.{fieldSize}
+use Rattle.jobs.specs.Check.{wordsIn, sizeIn, entryIn, askedIn, goodEntry, goodEntries, placedIn, nextOf, goodFile, openedOf}
 use Rattle.jobs.proofs.Opened as opened-file
 use Rattle.jobs.proofs.Next as next-entry
 use Rattle.jobs.proofs.GoodEntry.{good, next-is}
@@ -38,8 +39,8 @@ module _ (h : Header) (file : List ℕ) (at : ℕ) (here : at < length file) (ok
 
   -- and the one that comes is the entry in its place
   pub record Placed (e : EntryAt) (c : Cursor) : Type 0 where
-    pub entry : e ≡ record { question = askedIn h (drop at file); start = at + 8; words = wordsIn (drop at file) }
-    pub after : c .at ≡ at + 8 + 2 * wordsIn (drop at file)
+    pub entry : e ≡ record { question = askedIn h (drop at file); start = at + fieldSize; words = wordsIn (drop at file) }
+    pub after : c .at ≡ at + sizeIn (drop at file)
 
   pub placed : (r : Next) (e : EntryAt) (c : Cursor) → r ≡ nextOf h file (record { at = at }) → r ≡ next.Entry e c → Placed e c
   placed r e c says is = by (sym is ∙ says ∙ found)
@@ -50,12 +51,12 @@ module _ (h : Header) (file : List ℕ) (at : ℕ) (here : at < length file) (ok
   pub entry-words : wordsIn (drop at file) ≤ 140
   entry-words = good h (drop at file) this-good .words
 
-  pub entry-within : at + 8 + 2 * wordsIn (drop at file) ≤ length file
+  pub entry-within : at + sizeIn (drop at file) ≤ length file
   entry-within = omega (arith, good h (drop at file) this-good .whole, length-drop at file)
 
-  -- the words behind its eight bytes
-  pub words-there : wordsOf (take (2 * wordsIn (drop at file)) (drop (at + 8) file)) ≡ entryIn (drop at file) .words
-  words-there = ap (λ (l : List ℕ). wordsOf (take (2 * wordsIn (drop at file)) l)) (sym (drop-drop 8 at file))
+  -- the words behind its fields
+  pub words-there : wordsOf (take (2 * wordsIn (drop at file)) (drop (at + fieldSize) file)) ≡ entryIn (drop at file) .words
+  words-there = ap (λ (l : List ℕ). wordsOf (take (2 * wordsIn (drop at file)) l)) (sym (drop-drop fieldSize at file))
 
 -- a file that is turned away
 pub no-job : (file : List ℕ) (r : Opened) → r ≡ openedOf file → OneOf (1 ∷ []) (tagOf opened-file.the-type r) → goodFile file ≡ false

@@ -5,7 +5,13 @@ use Prim.Native.Nat.{ℕ, zero, suc, _+_, _*_, _<_, _≤_}
 use native.Mathlib.Omega.{arith}
 use lib.ListN.{length, drop, length-drop, drop-of-length-le}
 use lib.Seq.{drop-drop}
-use Rattle.jobs.specs.Check.{wordsIn, sizeIn, walkFrom, entriesIn}
+use Rattle.jobs.specs.Format.{fieldSize}
+use Rattle.jobs.specs.Check.{sizeIn, behindFirst, walkFrom, entriesIn}
+
+-- an entry's size: its first byte, and those behind it
+first-and-rest : (front : List ℕ) → sizeIn front ≡ suc (behindFirst front)
+unfolding fieldSize
+first-and-rest front = omega arith
 
 module _ {A : Type 0} (end : A) (entry : (front : List ℕ) → (later : A) → A) where
   -- bytes passed over
@@ -19,17 +25,14 @@ module _ {A : Type 0} (end : A) (entry : (front : List ℕ) → (later : A) → 
   unfolding walkFrom
   one-entry [] h = absurd (omega arith)
   one-entry (b ∷ bytes) h =
-      let size : sizeIn (b ∷ bytes) ≡ suc (7 + 2 * wordsIn (b ∷ bytes)) = omega arith in
-      ap (entry (b ∷ bytes)) (passed (7 + 2 * wordsIn (b ∷ bytes)) bytes ∙ sym (ap (λ (k : ℕ). walkFrom end entry 0 (drop k (b ∷ bytes))) size))
+      ap (entry (b ∷ bytes)) (passed (behindFirst (b ∷ bytes)) bytes ∙ sym (ap (λ (k : ℕ). walkFrom end entry 0 (drop k (b ∷ bytes))) (first-and-rest (b ∷ bytes))))
 
   -- at a place of the file: the entry there, and what follows it
   pub walk-here : (file : List ℕ) (at : ℕ) → at < length file
-      → walkFrom end entry 0 (drop at file) ≡ entry (drop at file) (walkFrom end entry 0 (drop (at + 8 + 2 * wordsIn (drop at file)) file))
+      → walkFrom end entry 0 (drop at file) ≡ entry (drop at file) (walkFrom end entry 0 (drop (at + sizeIn (drop at file)) file))
   walk-here file at h =
-      let words = wordsIn (drop at file) in
-      let further : at + (8 + 2 * words) ≡ at + 8 + 2 * words = omega arith in
       one-entry (drop at file) (omega (arith, length-drop at file))
-      ∙ ap (λ (rest : List ℕ). entry (drop at file) (walkFrom end entry 0 rest)) (drop-drop (8 + 2 * words) at file ∙ ap (λ (k : ℕ). drop k file) further)
+      ∙ ap (λ (rest : List ℕ). entry (drop at file) (walkFrom end entry 0 rest)) (drop-drop (sizeIn (drop at file)) at file)
 
   -- no entry is left
   pub walk-over : (file : List ℕ) (at : ℕ) → length file ≤ at → walkFrom end entry 0 (drop at file) ≡ end

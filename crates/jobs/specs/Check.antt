@@ -13,7 +13,7 @@ use Rattle.jobs.specs.declared.Opened.{Opened}
 use Rattle.jobs.specs.declared.Opened.the-variants as opened
 use Rattle.jobs.specs.declared.Next.{Next}
 use Rattle.jobs.specs.declared.Next.the-variants as next
-use Rattle.jobs.specs.Format.{Entry, asked}
+use Rattle.jobs.specs.Format.{Entry, fieldBytes, headSize, fieldSize, behindValue, asked}
 use Rattle.jobs.specs.Rules.{goodHeader, keepsRules}
 
 -- 16 bits of two bytes, low first
@@ -22,10 +22,14 @@ pairAt bytes i j = getD bytes i 0 + 256 * getD bytes j 0
 
 -- the number of words of the entry at the front of some bytes, and its size in bytes
 abbrev pub wordsIn : List ℕ → ℕ
-wordsIn front = pairAt front 6 7
+wordsIn front = pairAt front (behindValue + 2) (behindValue + 3)
 
 abbrev pub sizeIn : List ℕ → ℕ
-sizeIn front = 8 + 2 * wordsIn front
+sizeIn front = fieldSize + 2 * wordsIn front
+
+-- how many of them stand behind its first byte
+abbrev pub behindFirst : List ℕ → ℕ
+behindFirst front = length (drop 1 (fieldBytes 0 0 0 0 0 0)) + 2 * wordsIn front
 
 -- the entry at the front of some bytes
 abbrev pub entryIn : List ℕ → Entry
@@ -33,9 +37,9 @@ entryIn front = record {
   kind = getD front 0 0;
   reg = getD front 1 0;
   value = pairAt front 2 3;
-  device = getD front 4 0;
-  seed = getD front 5 0;
-  words = wordsOf (take (2 * wordsIn front) (drop 8 front));
+  device = getD front behindValue 0;
+  seed = getD front (behindValue + 1) 0;
+  words = wordsOf (take (2 * wordsIn front) (drop fieldSize front));
 }
 
 abbrev pub askedIn : Header → List ℕ → Question
@@ -43,13 +47,13 @@ askedIn h front = asked h (entryIn front)
 
 -- not cut short, and keeping the rules
 unfoldable pub goodEntry : Header → List ℕ → Bool
-goodEntry h front = leb 8 (length front) && leb (sizeIn front) (length front) && keepsRules h (entryIn front)
+goodEntry h front = leb fieldSize (length front) && leb (sizeIn front) (length front) && keepsRules h (entryIn front)
 
 -- The entries from some bytes on, one after the other: the bytes of an entry are passed over before the next begins.
 module _ {A : Type 0} (end : A) (entry : (front : List ℕ) → (later : A) → A) where
   unfoldable pub walkFrom : (pass : ℕ) → List ℕ → A
   walkFrom pass [] = end
-  walkFrom zero (b ∷ bytes) = entry (b ∷ bytes) (walkFrom (7 + 2 * wordsIn (b ∷ bytes)) bytes)
+  walkFrom zero (b ∷ bytes) = entry (b ∷ bytes) (walkFrom (behindFirst (b ∷ bytes)) bytes)
   walkFrom (suc pass) (b ∷ bytes) = walkFrom pass bytes
 
 -- every entry is good
@@ -70,7 +74,7 @@ headerIn file = record { n = getD file 5 0; alive = getD file 6 0 }
 -- FILE is given exactly when this is false: the file is longer than 65,536 bytes, the header is cut short or wrong, or an entry is not good
 unfoldable pub goodFile : List ℕ → Bool
 goodFile file =
-    leb (length file) 65536 && leb 7 (length file) && marked file && goodHeader (headerIn file) && goodEntries (headerIn file) (drop 7 file)
+    leb (length file) 65536 && leb headSize (length file) && marked file && goodHeader (headerIn file) && goodEntries (headerIn file) (drop headSize file)
 
 -- what `open` says
 unfoldable pub openedOf : List ℕ → Opened
@@ -84,7 +88,7 @@ openedNumber opened.File = 14
 -- an entry with its place
 abbrev pub placedIn : Header → (at : ℕ) → (front : List ℕ) → Next
 placedIn h at front =
-    next.Entry (record { question = askedIn h front; start = at + 8; words = wordsIn front }) (record { at = at + 8 + 2 * wordsIn front })
+    next.Entry (record { question = askedIn h front; start = at + fieldSize; words = wordsIn front }) (record { at = at + sizeIn front })
 
 abbrev pub nextIn : Header → (at : ℕ) → (rest : List ℕ) → Next
 nextIn h at [] = next.End

@@ -26,7 +26,18 @@ abbrev pub fieldBytes : (kind reg value device seed words : ℕ) → List ℕ
 fieldBytes kind reg value device seed words =
     kind ∷ reg ∷ (value % 256) ∷ (value / 256) ∷ device ∷ seed ∷ (words % 256) ∷ (words / 256) ∷ []
 
--- and the answer's words
+-- how many bytes that is, for every header and every entry
+unfoldable pub headSize : ℕ
+headSize = length (headerBytes (record { n = 0; alive = 0 }))
+
+unfoldable pub fieldSize : ℕ
+fieldSize = length (fieldBytes 0 0 0 0 0 0)
+
+-- the place behind the value, where device, seed and the number of words stand
+abbrev pub behindValue : ℕ
+behindValue = 4
+
+-- an entry: its fields, and the answer's words
 abbrev pub entryBytes : Entry → List ℕ
 entryBytes e = fieldBytes (e .kind) (e .reg) (e .value) (e .device) (e .seed) (length (e .words)) ++ asBytes (e .words)
 

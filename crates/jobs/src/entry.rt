@@ -4,26 +4,29 @@ use crate::Cursor;
 use crate::EntryAt;
 use crate::Header;
 use crate::Next;
+use crate::field_size;
 use crate::fields::are_unused_zero;
+use crate::heading::head_size;
 use packing::join;
 use questions::question::Question;
 use questions::question::ask;
 ghost use mathlib.Core.Path.{_≡_};
 ghost use mathlib.Core.Bool.{true};
-ghost use Prim.Native.Nat.{_≤_};
+ghost use Prim.Native.Nat.{_+_, _≤_};
 ghost use lib.ListN.{length, drop};
-ghost use Rattle.jobs.specs.Check.{wordsIn, askedIn, goodEntry, goodEntries, placedIn};
+ghost use Rattle.jobs.specs.Format.{headSize, behindValue};
+ghost use Rattle.jobs.specs.Check.{wordsIn, sizeIn, askedIn, goodEntry, goodEntries, placedIn};
 
 pub(crate) fn are_good_entries(header: Header, file: &[u8]) -> bool
-    requires { ⌜ 7 ≤ length (now file) ⌝ }
-    ensures { λ r. ⌜ r ≡ goodEntries header (drop 7 (now (file .entry))) ⌝ }
+    requires { ⌜ headSize ≤ length (now file) ⌝ }
+    ensures { λ r. ⌜ r ≡ goodEntries header (drop headSize (now (file .entry))) ⌝ }
 {
-    let mut at = 7;
+    let mut at = head_size();
     while at < file.len() {
         if !is_good_entry(header, &file[at..]) {
             return false;
         }
-        at = at + 8 + 2 * words_in(&file[at..]);
+        at = at + size_in(&file[at..]);
     }
     true
 }
@@ -32,14 +35,13 @@ pub(crate) fn are_good_entries(header: Header, file: &[u8]) -> bool
 pub(crate) fn is_good_entry(header: Header, front: &[u8]) -> bool
     ensures { λ r. ⌜ r ≡ goodEntry header (now (front .entry)) ⌝ }
 {
-    if front.len() < 8 {
+    if front.len() < field_size() {
         return false;
     }
-    let words = words_in(front);
-    if 140 < words {
+    if 140 < words_in(front) {
         return false;
     }
-    if front.len() < 8 + 2 * words {
+    if front.len() < size_in(front) {
         return false;
     }
     let q = question_in(header, front);
@@ -56,7 +58,7 @@ pub(crate) fn entry_known_at(header: Header, file: &[u8], at: usize) -> Next
 {
     let words = words_in(&file[at..]);
     let question = question_in(header, &file[at..]);
-    let start = at + 8;
+    let start = at + field_size();
     Next::Entry(
         EntryAt {
             question,
@@ -69,16 +71,27 @@ pub(crate) fn entry_known_at(header: Header, file: &[u8], at: usize) -> Next
     )
 }
 
+// Its size in bytes.
+fn size_in(front: &[u8]) -> usize
+    requires { ⌜ (behindValue + 4 ≤ length (now front)) × (wordsIn (now front) ≤ 140) ⌝ }
+    ensures { λ r. ⌜ r ≡ sizeIn (now (front .entry)) ⌝ }
+{
+    field_size() + 2 * words_in(front)
+}
+
+// Where device, seed and the number of words stand: behind the value.
+const BEHIND_VALUE: usize = 4;
+
 // How many words an entry has.
 fn words_in(front: &[u8]) -> usize
-    requires { ⌜ 8 ≤ length (now front) ⌝ }
+    requires { ⌜ behindValue + 4 ≤ length (now front) ⌝ }
     ensures { λ r. ⌜ r ≡ wordsIn (now (front .entry)) ⌝ }
 {
-    join(front[6], front[7]) as usize
+    join(front[BEHIND_VALUE + 2], front[BEHIND_VALUE + 3]) as usize
 }
 
 fn question_in(header: Header, front: &[u8]) -> Question
-    requires { ⌜ 8 ≤ length (now front) ⌝ }
+    requires { ⌜ behindValue + 4 ≤ length (now front) ⌝ }
     ensures { λ r. ⌜ r ≡ askedIn header (now (front .entry)) ⌝ }
 {
     let kind = front[0];

@@ -4,12 +4,20 @@ use packing::join;
 ghost use mathlib.Core.Path.{_≡_};
 ghost use Prim.Native.Nat.{_≤_};
 ghost use lib.ListN.{length};
+ghost use Rattle.jobs.specs.Format.{headSize};
 ghost use Rattle.jobs.specs.Rules.{goodHeader};
 ghost use Rattle.jobs.specs.Check.{marked};
 
+// How many bytes stand in front of the first entry.
+pub(crate) fn head_size() -> usize
+    ensures { λ r. ⌜ r ≡ headSize ⌝ }
+{
+    7
+}
+
 // The mark BMC, and version 1.
 pub(crate) fn is_marked(file: &[u8]) -> bool
-    requires { ⌜ 7 ≤ length (now file) ⌝ }
+    requires { ⌜ 5 ≤ length (now file) ⌝ }
     ensures { λ r. ⌜ r ≡ marked (now (file .entry)) ⌝ }
 {
     if file[0] != 0x42 {

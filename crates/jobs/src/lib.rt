@@ -7,10 +7,12 @@ mod heading;
 use entry::are_good_entries;
 use entry::entry_known_at;
 use entry::is_good_entry;
+use heading::head_size;
 use heading::is_good_header;
 use heading::is_marked;
 use questions::question::Question;
 ghost use mathlib.Core.Path.{_≡_};
+ghost use Rattle.jobs.specs.Format.{headSize, fieldSize};
 ghost use Rattle.jobs.specs.Check.{openedOf, openedNumber, nextOf, nextNumber};
 
 // How many devices the chain has, and whether the alive byte is on.
@@ -59,7 +61,7 @@ pub fn open(file: &[u8]) -> Opened
     if 65536 < file.len() {
         return Opened::File;
     }
-    if file.len() < 7 {
+    if file.len() < head_size() {
         return Opened::File;
     }
     if !is_marked(file) {
@@ -90,9 +92,16 @@ pub fn opened_number(opened: Opened) -> u8
 
 // Where the first entry stands: behind the header.
 pub fn first() -> Cursor
-    ensures { λ r. ⌜ r .at ≡ 7 ⌝ }
+    ensures { λ r. ⌜ r .at ≡ headSize ⌝ }
 {
-    Cursor { at: 7 }
+    Cursor { at: head_size() }
+}
+
+// How many bytes an entry has in front of its words.
+pub fn field_size() -> usize
+    ensures { λ r. ⌜ r ≡ fieldSize ⌝ }
+{
+    8
 }
 
 // The entry at a cursor.

@@ -10,7 +10,7 @@ use Rattle.remainder.specs.Turned.{Bytes}
 use Rattle.lines.specs.Write.{atFront}
 use Rattle.lines.proofs.LeftBy.{left-written}
 use Rattle.jobs.specs.declared.Header.{Header}
-use Rattle.jobs.specs.Format.{Entry}
+use Rattle.jobs.specs.Format.{Entry, headSize}
 use Rattle.jobs.specs.Check.{headerIn, entriesIn, goodFile}
 use Rattle.jobs.specs.Encoded.{Encodes}
 use Rattle.jobs.proofs.GoodFile.{header-read, entries-read, encoded-is-good, good-is-encoded}
@@ -74,9 +74,9 @@ module _ (file before after : List ℕ) (r : Certified) (done : CertificateDone 
             certificateOf file,
             record {
               header = headerIn file;
-              entries = entriesIn (drop 7 file);
+              entries = entriesIn (drop headSize file);
               encoded = encoded;
-              printed = text-of (headerIn file) (entriesIn (drop 7 file)) file encoded;
+              printed = text-of (headerIn file) (entriesIn (drop headSize file)) file encoded;
               room = omega (arith, room);
             },
             wrote good room,

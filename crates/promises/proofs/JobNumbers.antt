@@ -12,7 +12,7 @@ use lib.ListN.{length, drop}
 use borrow.Author.Tests.{leb-true, leb-false}
 use Rattle.remainder.specs.Turned.{Bytes}
 use Rattle.jobs.specs.declared.Header.{Header}
-use Rattle.jobs.specs.Format.{Entry}
+use Rattle.jobs.specs.Format.{Entry, headSize}
 use Rattle.jobs.specs.declared.Cursor.{Cursor}
 use Rattle.jobs.specs.declared.Opened.the-variants as opened
 use Rattle.jobs.specs.declared.Next.the-variants as next
@@ -40,7 +40,7 @@ pub bad-is-no-job : (file : List ℕ) → goodFile file ≡ false → NoJobFile 
 bad-is-no-job file bad h es encoded = false≢true (sym bad ∙ encoded-is-good h es file encoded)
 
 pub good-is-a-job : (file : List ℕ) → Bytes file → goodFile file ≡ true → NoJobFile file → ⊥
-good-is-a-job file small good none = none (headerIn file) (entriesIn (drop 7 file)) (good-is-encoded file small good)
+good-is-a-job file small good none = none (headerIn file) (entriesIn (drop headSize file)) (good-is-encoded file small good)
 
 bad-is-no-entry : (h : Header) (rest : List ℕ) → goodEntry h rest ≡ false → NoEntry h rest
 bad-is-no-entry h rest bad e later fits rules written = false≢true (sym bad ∙ ap (goodEntry h) written ∙ entry-good e fits later h rules)

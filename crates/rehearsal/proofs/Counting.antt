@@ -1,5 +1,5 @@
 -- How long the answered file is, counted entry by entry: it depends on the questions alone, never on what the registers hold.
-use mathlib.Core.Path.{_≡_, refl, sym, ap, _∙_}
+use mathlib.Core.Path.{_≡_, refl, sym, ap, subst, _∙_}
 use mathlib.Core.Bool.{true}
 use mathlib.Core.List.{List, [], _∷_}
 use Prim.Native.Nat.{ℕ, _+_, _*_, _≤_, _<_}
@@ -7,8 +7,9 @@ use native.Mathlib.Omega.{arith}
 use lib.ListN.{length, drop, length-append}
 use Rattle.packing.proofs.Back.{length-bytes}
 use Rattle.jobs.specs.declared.Header.{Header}
-use Rattle.jobs.specs.Format.{Entry, asked, entryBytes, entriesBytes}
-use Rattle.jobs.specs.Check.{wordsIn, askedIn, goodEntries, entriesIn, headerIn, goodFile}
+use Rattle.jobs.specs.Format.{Entry, headSize, fieldSize, asked, entryBytes, entriesBytes}
+use Rattle.jobs.specs.Check.{sizeIn, askedIn, goodEntries, entriesIn, headerIn, goodFile}
+use Rattle.jobs.proofs.Sizes.{head-length, fields-length, field-bounds}
 use Rattle.jobs.proofs.Entries.{first-good, good-here, entries-here, no-more-entries, parts}
 use Rattle.jobs.proofs.Placed.{entry-within}
 use Rattle.rehearsal.specs.declared.Places.{Places}
@@ -20,10 +21,10 @@ use Rattle.rehearsal.proofs.Sending.{few-words, answer-length}
 -- how many bytes the entries have with their answers, whatever the registers hold
 unfoldable pub sizes : Header → List Entry → ℕ
 sizes h [] = 0
-sizes h (e ∷ es) = 8 + 2 * answerWords (asked h e) + sizes h es
+sizes h (e ∷ es) = fieldSize + 2 * answerWords (asked h e) + sizes h es
 
-pub answered-size : (h : Header) (memory : List ℕ) (e : Entry) → length (entryBytes (withWords e (sent (h .n) memory (asked h e) .line))) ≡ 8 + 2 * answerWords (asked h e)
-answered-size h memory e = omega (arith, length-bytes (sent (h .n) memory (asked h e) .line), answer-length (asked h e) (h .n) memory)
+pub answered-size : (h : Header) (memory : List ℕ) (e : Entry) → length (entryBytes (withWords e (sent (h .n) memory (asked h e) .line))) ≡ fieldSize + 2 * answerWords (asked h e)
+answered-size h memory e = omega (arith, fields-length (e .kind) (e .reg) (e .value) (e .device) (e .seed) 0, length-bytes (sent (h .n) memory (asked h e) .line), answer-length (asked h e) (h .n) memory)
 
 pub rehearsed-size : (h : Header) (memory : List ℕ) (es : List Entry) → length (entriesBytes (rehearsed h memory es)) ≡ sizes h es
 unfolding rehearsed entriesBytes sizes
@@ -37,17 +38,18 @@ pub record Counting (h : Header) (file : List ℕ) (p : Places) : Type 0 where
   pub within : p .at ≤ length file
   pub good : goodEntries h (drop (p .at) file) ≡ true
   pub slow : p .to ≤ 40 * p .at
-  pub sum : p .to + sizes h (entriesIn (drop (p .at) file)) ≡ 7 + sizes h (entriesIn (drop 7 file))
+  pub sum : p .to + sizes h (entriesIn (drop (p .at) file)) ≡ headSize + sizes h (entriesIn (drop headSize file))
 
 sizes-here : (h : Header) (file : List ℕ) (at : ℕ) → at < length file
-    → sizes h (entriesIn (drop at file)) ≡ 8 + 2 * answerWords (askedIn h (drop at file)) + sizes h (entriesIn (drop (at + 8 + 2 * wordsIn (drop at file)) file))
+    → sizes h (entriesIn (drop at file)) ≡ fieldSize + 2 * answerWords (askedIn h (drop at file)) + sizes h (entriesIn (drop (at + sizeIn (drop at file)) file))
 unfolding sizes
 sizes-here h file at here = ap (sizes h) (entries-here file at here)
 
-pub counting-first : (h : Header) (file : List ℕ) → goodFile file ≡ true → h ≡ headerIn file → Counting h file (record { at = 7; to = 7 })
-counting-first h file ok is = record {
+pub counting-first : (h : Header) (file : List ℕ) → goodFile file ≡ true → h ≡ headerIn file → (at : ℕ) → at ≡ headSize
+    → Counting h file (record { at = at; to = at })
+counting-first h file ok is at start = subst (λ (k : ℕ). Counting h file (record { at = k; to = k })) (sym start) record {
   within = parts file ok .long;
-  good = ap (λ (x : Header). goodEntries x (drop 7 file)) is ∙ parts file ok .entries;
+  good = ap (λ (x : Header). goodEntries x (drop headSize file)) is ∙ parts file ok .entries;
   slow = omega arith;
   sum = refl;
 }
@@ -57,7 +59,7 @@ module _ (h : Header) (file : List ℕ) (p : Places) (here : p .at < length file
   counting-on = record {
     within = entry-within h file (p .at) here (counting .good);
     good = sym (good-here h file (p .at) here (first-good h file (p .at) here (counting .good))) ∙ counting .good;
-    slow = omega (arith, counting .slow, few-words (askedIn h (drop (p .at) file)));
+    slow = omega (arith, counting .slow, few-words (askedIn h (drop (p .at) file)), field-bounds .0);
     sum = omega (arith, counting .sum, sizes-here h file (p .at) here);
   }
 
@@ -69,12 +71,13 @@ pub counted : (h : Header) (file : List ℕ) (p : Places) → h ≡ headerIn fil
 unfolding rehearsalOf
 counted h file p is over counting =
     let h′ = headerIn file in
-    let es = entriesIn (drop 7 file) in
+    let es = entriesIn (drop headSize file) in
     omega (
       arith,
       counting .sum,
       ap (sizes h) (no-more-entries file (p .at) over),
       no-sizes h,
+      head-length h′,
       ap (λ (x : Header). sizes x es) is,
       rehearsed-size h′ (powerOnMemory (h′ .n)) es,
     )

@@ -13,9 +13,10 @@ use Rattle.jobs.specs.declared.Header.{Header}
 use Rattle.registers.specs.Memory.{isChain, powerOnMemory, PoweredOn}
 use Rattle.registers.specs.declared.Powered.{Powered}
 use Rattle.registers.proofs.Power.{switched-on}
-use Rattle.jobs.specs.Format.{Entry, headerBytes, entriesBytes, fileBytes}
+use Rattle.jobs.specs.Format.{Entry, headSize, headerBytes, entriesBytes, fileBytes}
 use Rattle.jobs.specs.Rules.{goodHeader}
 use Rattle.jobs.specs.Check.{goodEntries, entriesIn, headerIn, goodFile}
+use Rattle.jobs.proofs.Sizes.{head-length}
 use Rattle.jobs.proofs.Entries.{parts, header-least, header-most}
 use Rattle.rehearsal.specs.Rehearsal.{rehearsed, rehearsalOf}
 use Rattle.rehearsal.specs.Answering.{Ready}
@@ -32,7 +33,7 @@ module _ (h : Header) (file memory memory′ out out₁ out₂ : List ℕ) (powe
   from-power-on = switched-on (h .n) memory memory′ powered on a-chain
 
   abbrev es : List Entry
-  es = entriesIn (drop 7 file)
+  es = entriesIn (drop headSize file)
 
   -- the answered file is its header and its answered entries
   pub in-parts : rehearsalOf file ≡ headerBytes h ++ entriesBytes (rehearsed h memory′ es)
@@ -45,11 +46,11 @@ module _ (h : Header) (file memory memory′ out out₁ out₂ : List ℕ) (powe
   ready kept = record {
     chain = ap (isChain (h .n)) kept ∙ a-chain;
     long = parts file ok .long;
-    good = ap (λ (x : Header). goodEntries x (drop 7 file)) is ∙ parts file ok .entries;
-    short = omega (arith, ap length in-parts, length-append (headerBytes h) (entriesBytes (rehearsed h memory′ es)));
+    good = ap (λ (x : Header). goodEntries x (drop headSize file)) is ∙ parts file ok .entries;
+    short = omega (arith, ap length in-parts, length-append (headerBytes h) (entriesBytes (rehearsed h memory′ es)), head-length h);
   }
 
-  pub all-written : out₁ ≡ sets out 0 (headerBytes h) → out₂ ≡ sets out₁ 7 (entriesBytes (rehearsed h memory′ es)) → out₂ ≡ sets out 0 (rehearsalOf file)
+  pub all-written : out₁ ≡ sets out 0 (headerBytes h) → out₂ ≡ sets out₁ headSize (entriesBytes (rehearsed h memory′ es)) → out₂ ≡ sets out 0 (rehearsalOf file)
   all-written head behind =
-      behind ∙ ap (λ (l : List ℕ). sets l 7 (entriesBytes (rehearsed h memory′ es))) head
+      behind ∙ ap₂ (λ (l : List ℕ) (k : ℕ). sets l k (entriesBytes (rehearsed h memory′ es))) head (sym (head-length h))
       ∙ sym (sets-append out 0 (headerBytes h) (entriesBytes (rehearsed h memory′ es))) ∙ ap (sets out 0) (sym in-parts)

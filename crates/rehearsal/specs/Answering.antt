@@ -8,8 +8,8 @@ use lib.Seq.{sets}
 use Rattle.questions.specs.declared.question.Question.{Question}
 use Rattle.registers.specs.Memory.{isChain}
 use Rattle.jobs.specs.declared.Header.{Header}
-use Rattle.jobs.specs.Format.{Entry, fieldBytes, entryBytes, entriesBytes}
-use Rattle.jobs.specs.Check.{wordsIn, askedIn, entryIn, entriesIn, goodEntries}
+use Rattle.jobs.specs.Format.{Entry, headSize, fieldSize, fieldBytes, entryBytes, entriesBytes}
+use Rattle.jobs.specs.Check.{sizeIn, askedIn, entryIn, entriesIn, goodEntries}
 use Rattle.rehearsal.specs.declared.Places.{Places}
 use Rattle.rehearsal.specs.Rehearsal.{answerWords, sent, withWords, rehearsed}
 
@@ -19,15 +19,15 @@ pub record SentDone (n : ℕ) (q : Question) (memory memoryLeft line : List ℕ)
   pub comes : take r line ≡ sent n memory q .line
   pub remembers : memoryLeft ≡ sent n memory q .memory
 
--- an entry's eight bytes before its words
+-- an entry's bytes before its words
 abbrev pub fieldsFor : Question → (words : ℕ) → List ℕ
 fieldsFor q words = fieldBytes (q .kind) (q .reg) (q .value) (q .device) (q .seed) words
 
 -- the places behind an entry
 abbrev pub entryWith : Header → (file : List ℕ) → Places → Places
 entryWith h file p = record {
-  at = p .at + 8 + 2 * wordsIn (drop (p .at) file);
-  to = p .to + 8 + 2 * answerWords (askedIn h (drop (p .at) file));
+  at = p .at + sizeIn (drop (p .at) file);
+  to = p .to + fieldSize + 2 * answerWords (askedIn h (drop (p .at) file));
 }
 
 -- the entry at a place, with the answer that comes back
@@ -43,6 +43,6 @@ pub record AnsweredOne (h : Header) (file : List ℕ) (p : Places) (memory memor
 -- where answering may begin: a chain, and good entries whose answers do not make the file too long
 pub record Ready (h : Header) (file memory out : List ℕ) : Type 0 where
   pub chain : isChain (h .n) (length memory) ≡ true
-  pub long : 7 ≤ length file
-  pub good : goodEntries h (drop 7 file) ≡ true
-  pub short : length (entriesBytes (rehearsed h memory (entriesIn (drop 7 file)))) ≤ 65529
+  pub long : headSize ≤ length file
+  pub good : goodEntries h (drop headSize file) ≡ true
+  pub short : headSize + length (entriesBytes (rehearsed h memory (entriesIn (drop headSize file)))) ≤ 65536

@@ -14,7 +14,7 @@ use Rattle.commands.specs.Command.{commandLine}
 use Rattle.registers.specs.Memory.{powerOnMemory}
 use Rattle.twin.specs.Step.{Chain, chainWith, hops}
 use Rattle.jobs.specs.declared.Header.{Header}
-use Rattle.jobs.specs.Format.{Entry, asked, fileBytes}
+use Rattle.jobs.specs.Format.{Entry, headSize, asked, fileBytes}
 use Rattle.jobs.specs.Check.{goodFile, headerIn, entriesIn}
 use Rattle.rehearsal.specs.declared.Rehearsed.{Rehearsed}
 use Rattle.rehearsal.specs.declared.Rehearsed.the-variants.{Bytes, File, Room}
@@ -34,7 +34,7 @@ rehearsed h memory (e ∷ es) = withWords e (sent (h .n) memory (asked h e) .lin
 
 -- the answered file
 unfoldable pub rehearsalOf : (file : List ℕ) → List ℕ
-rehearsalOf file = fileBytes (headerIn file) (rehearsed (headerIn file) (powerOnMemory (headerIn file .n)) (entriesIn (drop 7 file)))
+rehearsalOf file = fileBytes (headerIn file) (rehearsed (headerIn file) (powerOnMemory (headerIn file .n)) (entriesIn (drop headSize file)))
 
 -- the answer: FILE, also where the answered file would be too long; then ROOM
 unfoldable pub rehearsedOf : (file out : List ℕ) → Rehearsed

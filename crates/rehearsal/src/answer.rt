@@ -2,6 +2,7 @@
 use crate::Places;
 use crate::entry::answer_entry;
 use jobs::Header;
+use jobs::first;
 use packing::store;
 use registers::power_on;
 ghost use mathlib.Core.Path.{_≡_};
@@ -9,7 +10,7 @@ ghost use mathlib.Core.Bool.{true};
 ghost use Prim.Native.Nat.{_*_, _≤_};
 ghost use lib.ListN.{length, drop};
 ghost use lib.Seq.{sets};
-ghost use Rattle.jobs.specs.Format.{entriesBytes};
+ghost use Rattle.jobs.specs.Format.{headSize, entriesBytes};
 ghost use Rattle.jobs.specs.Check.{goodFile, headerIn, entriesIn};
 ghost use Rattle.rehearsal.specs.Rehearsal.{rehearsalOf, rehearsed};
 ghost use Rattle.rehearsal.specs.Answering.{Ready};
@@ -43,9 +44,13 @@ fn blank_memory() -> [u16; 8192]
 
 fn answer_entries(header: Header, file: &[u8], memory: &mut [u16], out: &mut [u8])
     requires { ⌜ Ready header (now file) (now memory) (now out) ⌝ }
-    ensures { λ _. ⌜ now (out .exit) ≡ sets (now (out .entry)) 7 (entriesBytes (rehearsed header (now (memory .entry)) (entriesIn (drop 7 (now (file .entry)))))) ⌝ }
+    ensures { λ _. ⌜ now (out .exit) ≡ sets (now (out .entry)) headSize (entriesBytes (rehearsed header (now (memory .entry)) (entriesIn (drop headSize (now (file .entry)))))) ⌝ }
 {
-    let mut places = Places { at: 7, to: 7 };
+    let start = first();
+    let mut places = Places {
+        at: start.at,
+        to: start.at,
+    };
     while places.at < file.len() {
         places = answer_entry(header, file, memory, out, places);
     }

@@ -3,6 +3,8 @@ use crate::Places;
 use jobs::Cursor;
 use jobs::Header;
 use jobs::Next;
+use jobs::field_size;
+use jobs::first;
 use jobs::next_entry;
 use questions::question::Question;
 use questions::question::is_good;
@@ -19,7 +21,11 @@ pub(crate) fn answered_length(header: Header, file: &[u8]) -> usize
     requires { ⌜ (goodFile (now file) ≡ true) × (header ≡ headerIn (now file)) ⌝ }
     ensures { λ r. ⌜ r ≡ length (rehearsalOf (now (file .entry))) ⌝ }
 {
-    let mut places = Places { at: 7, to: 7 };
+    let start = first();
+    let mut places = Places {
+        at: start.at,
+        to: start.at,
+    };
     while places.at < file.len() {
         places = count_entry(header, file, places);
     }
@@ -37,7 +43,7 @@ fn count_entry(header: Header, file: &[u8], places: Places) -> Places
     };
     Places {
         at: after.at,
-        to: places.to + 8 + 2 * answer_words(entry.question),
+        to: places.to + field_size() + 2 * answer_words(entry.question),
     }
 }
 

@@ -5,6 +5,7 @@ use commands::write_command;
 use jobs::Cursor;
 use jobs::Header;
 use jobs::Next;
+use jobs::field_size;
 use jobs::next_entry;
 use packing::pack;
 use packing::store;
@@ -28,7 +29,7 @@ pub(crate) fn answer_entry(
     out: &mut [u8],
     places: Places,
 ) -> Places
-    requires { ⌜ (places .at < length (now file)) × (goodEntries header (drop (places .at) (now file)) ≡ true) × (isChain (header .n) (length (now memory)) ≡ true) × (places .to + 288 ≤ 100000) ⌝ }
+    requires { ⌜ (places .at < length (now file)) × (goodEntries header (drop (places .at) (now file)) ≡ true) × (isChain (header .n) (length (now memory)) ≡ true) × (places .to + 296 ≤ 100000) ⌝ }
     ensures { λ r. ⌜ AnsweredOne header (now (file .entry)) places (now (memory .entry)) (now (memory .exit)) (now (out .entry)) (now (out .exit)) r ⌝ }
 {
     let next = next_entry(header, file, Cursor { at: places.at });
@@ -40,10 +41,11 @@ pub(crate) fn answer_entry(
     let mut line: [u16; 140] = [0; 140];
     let words = send(header.n, q, memory, &mut line);
     put_fields(out, to, q, words);
-    put_words(out, to + 8, &line[..words]);
+    let behind = to + field_size();
+    put_words(out, behind, &line[..words]);
     Places {
         at: after.at,
-        to: to + 8 + 2 * words,
+        to: behind + 2 * words,
     }
 }
 

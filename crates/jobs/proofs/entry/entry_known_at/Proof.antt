@@ -1,13 +1,11 @@
 -- `entry_known_at` meets its contract: a good entry is not cut short, so that its places lie in the file.
-use mathlib.Core.Path.{ap, ap₂, _∙_}
-use Prim.Native.Nat.{ℕ, _+_, _*_}
+use mathlib.Core.Path.{ap, _∙_}
 use native.Mathlib.Omega.{arith}
 use lib.ListN.{length, drop, length-drop}
 use Rattle.ground.proofs.Lists.{part-to-end}
-use Rattle.questions.specs.declared.question.Question.{Question}
-use Rattle.jobs.specs.declared.Next.the-variants as next
 use Rattle.jobs.specs.Check.{wordsIn, askedIn}
-use Rattle.jobs.proofs.GoodEntry.{good}
+use Rattle.jobs.proofs.Sizes.{field-bounds}
+use Rattle.jobs.proofs.GoodEntry.{good, placed-is}
 use borrow.Author.Needs.{needs}
 use Rattle.jobs.proofs.entry.entry_known_at.Statement.{statement}
 use Rattle.jobs.proofs.entry.entry_known_at.Tie as tie
@@ -22,7 +20,7 @@ part-words-in-end : tie.Need-part-words-in-end
 part-words-in-end c = search needs
 
 words-in-requires : tie.Need-words-in-requires
-words-in-requires c κs = let a = c .before .before .args in omega (arith, ap length (part-to-end (a .file .now) (a .at)), good (a .header) (drop (a .at) (a .file .now)) (c .before .before .pre .1) .whole)
+words-in-requires c κs = let a = c .before .before .args in omega (arith, ap length (part-to-end (a .file .now) (a .at)), good (a .header) (drop (a .at) (a .file .now)) (c .before .before .pre .1) .whole, field-bounds .0)
 
 sub-question-in : tie.Need-sub-question-in
 sub-question-in c = search needs
@@ -34,29 +32,31 @@ part-question-in-end : tie.Need-part-question-in-end
 part-question-in-end c = search needs
 
 question-in-requires : tie.Need-question-in-requires
-question-in-requires c κs = let a = c .before .before .before .before .args in omega (arith, ap length (part-to-end (a .file .now) (a .at)), good (a .header) (drop (a .at) (a .file .now)) (c .before .before .before .before .pre .1) .whole)
+question-in-requires c κs = let a = c .before .before .before .before .args in omega (arith, ap length (part-to-end (a .file .now) (a .at)), good (a .header) (drop (a .at) (a .file .now)) (c .before .before .before .before .pre .1) .whole, field-bounds .0)
+
+field-size-requires : tie.Need-field-size-requires
+field-size-requires c κs = search needs
 
 add-start : tie.Need-add-start
-add-start c = search needs
+add-start c = let a = c .before .before .before .before .before .before .args in omega (arith, c .field-size .ensures, good (a .header) (drop (a .at) (a .file .now)) (c .before .before .before .before .before .before .pre .1) .whole, length-drop (a .at) (a .file .now))
 
 mul-t8 : tie.Need-mul-t8
 mul-t8 c =
-    let a = c .before .before .before .before .before .args in
-    let words = c .before .before .words-in .ensures ∙ ap wordsIn (part-to-end (a .file .now) (a .at)) in
-    omega (arith, words, good (a .header) (drop (a .at) (a .file .now)) (c .before .before .before .before .before .pre .1) .words)
+    let a = c .before .before .before .before .before .before .args in
+    let words = c .before .before .before .words-in .ensures ∙ ap wordsIn (part-to-end (a .file .now) (a .at)) in
+    omega (arith, words, good (a .header) (drop (a .at) (a .file .now)) (c .before .before .before .before .before .before .pre .1) .words)
 
 add-t15 : tie.Need-add-t15
 add-t15 c =
-    let a = c .before .before .before .before .before .args in
-    let words = c .before .before .words-in .ensures ∙ ap wordsIn (part-to-end (a .file .now) (a .at)) in
-    omega (arith, words, good (a .header) (drop (a .at) (a .file .now)) (c .before .before .before .before .before .pre .1) .whole, length-drop (a .at) (a .file .now))
+    let a = c .before .before .before .before .before .before .args in
+    let words = c .before .before .before .words-in .ensures ∙ ap wordsIn (part-to-end (a .file .now) (a .at)) in
+    omega (arith, c .field-size .ensures, words, good (a .header) (drop (a .at) (a .file .now)) (c .before .before .before .before .before .before .pre .1) .whole, length-drop (a .at) (a .file .now))
 
 returns : tie.Need-returns
 returns c =
-    let a = c .before .before .before .before .before .args in
+    let a = c .before .before .before .before .before .before .args in
     let part = part-to-end (a .file .now) (a .at) in
-    ap₂ (λ (q : Question) (w : ℕ). next.Entry (record { question = q; start = a .at + 8; words = w }) (record { at = a .at + 8 + 2 * w }))
-    (c .question-in .ensures ∙ ap (askedIn (a .header)) part) (c .before .before .words-in .ensures ∙ ap wordsIn part)
+    placed-is (a .header) (drop (a .at) (a .file .now)) (a .at) _ _ _ (c .before .question-in .ensures ∙ ap (askedIn (a .header)) part) (c .field-size .ensures) (c .before .before .before .words-in .ensures ∙ ap wordsIn part)
 
 pub entry-known-at-spec : {M : Type 1} → statement M
 entry-known-at-spec =
@@ -70,6 +70,7 @@ entry-known-at-spec =
     part-question-in-start
     part-question-in-end
     question-in-requires
+    field-size-requires
     add-start
     mul-t8
     add-t15

@@ -7,38 +7,38 @@ use borrow.Author.Tests.{le-leb, lt-leb}
 use Rattle.questions.specs.declared.question.Question.{Question}
 use Rattle.jobs.specs.Rules.{unusedAreZero}
 use Rattle.jobs.specs.Check.{askedIn}
+use Rattle.jobs.proofs.Sizes.{field-bounds}
 use Rattle.jobs.proofs.GoodEntry.{too-short, too-many, cut-short, of-its-fields}
 use borrow.Author.Needs.{needs}
 use Rattle.jobs.proofs.entry.is_good_entry.Statement.{statement}
 use Rattle.jobs.proofs.entry.is_good_entry.Tie as tie
 
+field-size-requires : tie.Need-field-size-requires
+field-size-requires c κs = search needs
+
 returns : tie.Need-returns
-returns c = sym (too-short (c .before .before .args .header) (c .before .before .args .front .now) (c .if1 .taken))
+returns c = sym (too-short (c .before .before .before .args .header) (c .before .before .before .args .front .now) (omega (arith, c .before .field-size .ensures, c .if1 .taken)))
 
 words-in-requires : tie.Need-words-in-requires
-words-in-requires c κs = search needs
+words-in-requires c κs = omega (arith, field-bounds .0, c .before .field-size .ensures, c .if1 .left)
 
 returns-2 : tie.Need-returns-2
-returns-2 c = sym (too-many (c .before .before .before .before .args .header) (c .before .before .before .before .args .front .now) (omega (arith, c .before .words-in .ensures, c .if2 .taken)))
+returns-2 c = sym (too-many (c .before .before .before .before .before .args .header) (c .before .before .before .before .before .args .front .now) (omega (arith, c .before .words-in .ensures, c .if2 .taken)))
 
-mul-if3 : tie.Need-mul-if3
-mul-if3 c = search needs
-
-add-if3 : tie.Need-add-if3
-add-if3 c = search needs
+size-in-requires : tie.Need-size-in-requires
+size-in-requires c κs = (omega (arith, field-bounds .0, c .before .before .before .field-size .ensures, c .before .before .if1 .left), omega (arith, c .before .words-in .ensures, c .if2 .left))
 
 returns-3 : tie.Need-returns-3
-returns-3 c = sym (cut-short (c .before .before .before .before .before .args .header) (c .before .before .before .before .before .args .front .now) (omega (arith, c .before .before .words-in .ensures, c .if3 .taken)))
+returns-3 c = sym (cut-short (c .before .before .before .before .before .before .before .args .header) (c .before .before .before .before .before .before .before .args .front .now) (omega (arith, c .before .size-in .ensures, c .if3 .taken)))
 
 question-in-requires : tie.Need-question-in-requires
-question-in-requires c κs = search needs
+question-in-requires c κs = omega (arith, field-bounds .0, c .before .before .before .before .before .field-size .ensures, c .before .before .before .before .if1 .left)
 
 returns-4 : tie.Need-returns-4
 returns-4 c =
-    let a = c .before .before .before .before .before .before .before .before .args in
-    let words = c .before .before .before .before .before .words-in .ensures in
+    let a = c .before .before .before .before .before .before .before .before .before .before .args in
     let kind = ap (λ (q : Question). q .kind) (c .before .before .question-in .ensures) in
-    sym (of-its-fields (a .header) (a .front .now) (omega (arith, words, c .before .before .before .if3 .left)) (omega (arith, words, c .before .before .before .before .if2 .left))
+    sym (of-its-fields (a .header) (a .front .now) (omega (arith, c .before .before .before .before .size-in .ensures, c .before .before .before .if3 .left)) (omega (arith, c .before .before .before .before .before .before .words-in .ensures, c .before .before .before .before .before .if2 .left))
     ∙ ap (λ (t : Bool). t && unusedAreZero (askedIn (a .header) (a .front .now))) (lt-leb (getD (a .front .now) 0 0) 4 (omega (arith, kind, c .if4 .taken))))
 
 are-unused-zero-requires : tie.Need-are-unused-zero-requires
@@ -46,22 +46,21 @@ are-unused-zero-requires c κs = search needs
 
 returns-5 : tie.Need-returns-5
 returns-5 c =
-    let a = c .before .before .before .before .before .before .before .before .before .args in
-    let words = c .before .before .before .before .before .before .words-in .ensures in
+    let a = c .before .before .before .before .before .before .before .before .before .before .before .args in
     let kind = ap (λ (q : Question). q .kind) (c .before .before .before .question-in .ensures) in
     c .are-unused-zero .ensures ∙ ap unusedAreZero (c .before .before .before .question-in .ensures)
-    ∙ sym (of-its-fields (a .header) (a .front .now) (omega (arith, words, c .before .before .before .before .if3 .left)) (omega (arith, words, c .before .before .before .before .before .if2 .left))
+    ∙ sym (of-its-fields (a .header) (a .front .now) (omega (arith, c .before .before .before .before .before .size-in .ensures, c .before .before .before .before .if3 .left)) (omega (arith, c .before .before .before .before .before .before .before .words-in .ensures, c .before .before .before .before .before .before .if2 .left))
     ∙ ap (λ (t : Bool). t && unusedAreZero (askedIn (a .header) (a .front .now))) (le-leb (getD (a .front .now) 0 0) 4 (omega (arith, kind, c .before .if4 .left))))
 
 pub is-good-entry-spec : {M : Type 1} → statement M
 is-good-entry-spec =
     tie.close
     (tie.spec
+    field-size-requires
     returns
     words-in-requires
     returns-2
-    mul-if3
-    add-if3
+    size-in-requires
     returns-3
     question-in-requires
     returns-4

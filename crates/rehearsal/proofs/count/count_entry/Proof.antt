@@ -3,6 +3,7 @@ use mathlib.Core.Path.{ap, ap₂, _∙_}
 use Prim.Native.Nat.{ℕ, _+_, _*_}
 use native.Mathlib.Omega.{arith}
 use Rattle.jobs.specs.declared.EntryAt.{EntryAt}
+use Rattle.jobs.proofs.Sizes.{field-bounds}
 use Rattle.jobs.proofs.Placed.{no-other, placed}
 use Rattle.rehearsal.specs.Rehearsal.{answerWords}
 use Rattle.rehearsal.proofs.Sending.{few-words}
@@ -21,23 +22,27 @@ returns c =
     let a = c .before .before .before .args in
     absurd (no-other (a .header) (a .file .now) (a .places .at) (c .before .before .before .pre .0) (c .before .before .before .pre .1) (c .before .next-entry .result) (c .before .next-entry .ensures) (c .match .keys2))
 
-add-t8 : tie.Need-add-t8
-add-t8 c = search needs
+field-size-requires : tie.Need-field-size-requires
+field-size-requires c κs = search needs
+
+add-t9 : tie.Need-add-t9
+add-t9 c = omega (arith, c .before .field-size .ensures, field-bounds .1, c .before .before .before .before .before .before .before .pre .0, c .before .before .before .before .before .before .before .pre .2, c .before .before .before .before .before .before .before .pre .3)
 
 answer-words-requires : tie.Need-answer-words-requires
 answer-words-requires c κs = search needs
 
-mul-t10 : tie.Need-mul-t10
-mul-t10 c = omega (arith, c .answer-words .ensures, few-words (c .before .before .before .next .given .0 .0 .question))
+mul-t11 : tie.Need-mul-t11
+mul-t11 c = omega (arith, c .answer-words .ensures, few-words (c .before .before .before .before .next .given .0 .0 .question))
 
-add-t11 : tie.Need-add-t11
-add-t11 c = omega (arith, c .answer-words .ensures, few-words (c .before .before .before .next .given .0 .0 .question), c .before .before .before .before .before .before .before .pre .2, c .before .before .before .before .before .before .before .pre .3, c .before .before .before .before .before .before .before .pre .0)
+add-t12 : tie.Need-add-t12
+add-t12 c = omega (arith, c .answer-words .ensures, c .before .before .field-size .ensures, field-bounds .1, few-words (c .before .before .before .before .next .given .0 .0 .question), c .before .before .before .before .before .before .before .before .pre .0, c .before .before .before .before .before .before .before .before .pre .2, c .before .before .before .before .before .before .before .before .pre .3)
 
 returns-2 : tie.Need-returns-2
 returns-2 c =
-    let a = c .before .before .before .before .before .before .before .args in
-    let is = placed (a .header) (a .file .now) (a .places .at) (c .before .before .before .before .before .before .before .pre .0) (c .before .before .before .before .before .before .before .pre .1) (c .before .before .before .before .before .next-entry .result) (c .before .before .before .next .given .0 .0) (c .before .before .before .next .given .0 .1 .0) (c .before .before .before .before .before .next-entry .ensures) (c .before .before .before .next .given .1) in
-    ap₂ (λ (at words : ℕ). record { at = at; to = a .places .to + 8 + 2 * words }) (is .after) (c .answer-words .ensures ∙ ap (λ (e : EntryAt). answerWords (e .question)) (is .entry))
+    let a = c .before .before .before .before .before .before .before .before .args in
+    let is = placed (a .header) (a .file .now) (a .places .at) (c .before .before .before .before .before .before .before .before .pre .0) (c .before .before .before .before .before .before .before .before .pre .1) (c .before .before .before .before .before .before .next-entry .result) (c .before .before .before .before .next .given .0 .0) (c .before .before .before .before .next .given .0 .1 .0) (c .before .before .before .before .before .before .next-entry .ensures) (c .before .before .before .before .next .given .1) in
+    let words = c .answer-words .ensures ∙ ap (λ (e : EntryAt). answerWords (e .question)) (is .entry) in
+    ap₂ (λ (at to : ℕ). record { at = at; to = to }) (is .after) (ap₂ (λ (k n : ℕ). a .places .to + k + 2 * n) (c .before .before .field-size .ensures) words)
 
 pub count-entry-spec : {M : Type 1} → statement M
 count-entry-spec =
@@ -46,8 +51,9 @@ count-entry-spec =
     next-entry-requires
     enum-known-next
     returns
-    add-t8
+    field-size-requires
+    add-t9
     answer-words-requires
-    mul-t10
-    add-t11
+    mul-t11
+    add-t12
     returns-2)
