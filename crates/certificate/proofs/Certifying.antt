@@ -13,13 +13,14 @@ use Rattle.jobs.specs.Format.{headSize}
 use Rattle.jobs.specs.Check.{entriesIn, goodFile, headerIn}
 use Rattle.jobs.proofs.Sizes.{head-bounds}
 use Rattle.jobs.proofs.Entries.{few-entries, parts}
+use Rattle.listening.specs.Listening.{heardOf, numberFor}
 use Rattle.printing.specs.Text.{certificateText}
 use Rattle.printing.specs.Print.{mostEntries, printedOf, printedNumber, PrintDone}
 use Rattle.printing.specs.declared.Printed.{Printed}
 use Rattle.printing.specs.declared.Printed.the-variants as printed
 use Rattle.certificate.specs.declared.Certified.{Certified}
 use Rattle.certificate.specs.declared.Certified.the-variants.{Bytes, File, Room}
-use Rattle.certificate.specs.Certificate.{heardOf, heardIn, numberFor, numbersOf, standingOf, certificateOf, certifiedOf, certifiedNumber, CertificateDone}
+use Rattle.certificate.specs.Certificate.{heardIn, numbersOf, standingOf, certificateOf, certifiedOf, certifiedNumber, CertificateDone}
 use Rattle.certificate.specs.Telling.{certifiedAs}
 
 pub turned-away : (file text : List ℕ) → goodFile file ≡ false → CertificateDone file text text File

@@ -1,4 +1,3 @@
-pub mod OneHeard
 pub mod Telling
 mod Certifying
 pub mod Answered

@@ -17,8 +17,9 @@ use Rattle.letters.specs.declared.Standing.{Standing}
 use Rattle.letters.specs.Letters.{Heard, heardFrom, begun}
 use Rattle.printing.specs.Print.{mostEntries}
 use Rattle.certificate.specs.declared.Told.{Told}
-use Rattle.certificate.specs.Certificate.{heardOf, heardIn, numberFor, numbersOf}
-use Rattle.certificate.specs.Telling.{heardHere, ToldOne, ToldAll}
+use Rattle.listening.specs.Listening.{heardOf, numberFor, heardHere}
+use Rattle.certificate.specs.Certificate.{heardIn, numbersOf}
+use Rattle.certificate.specs.Telling.{ToldOne, ToldAll}
 
 -- what is left to hear from a place on
 abbrev pub heardLeft : Header → (file : List ℕ) → (at : ℕ) → List Heard
@@ -55,7 +56,7 @@ module _ (h : Header) (file kept kept′ : List ℕ) (told told′ : Told) (shor
 
   -- no job file has more than 8,191 entries
   pub room-left : told .entries < length kept
-  room-left = omega (arith, going .passed, going .room, entry-within h file at here (going .good), head-bounds .0, field-bounds .0)
+  room-left = omega (arith, going .passed, going .room, entry-within h file at (first-good h file at here (going .good)), head-bounds .0, field-bounds .0)
 
   left : heardLeft h file at ≡ now-heard ∷ heardLeft h file (at + sizeIn (drop at file))
   left = ap (map (heardOf h)) (entries-here file at here)
@@ -70,7 +71,7 @@ module _ (h : Header) (file kept kept′ : List ℕ) (told told′ : Told) (shor
       ap₂ take (one .entries ∙ add-one (told .entries)) (one .numbers) ∙ take-suc-set kept (told .entries) number room-left in
       record {
         passed = omega (arith, going .passed, one .at, one .entries, field-bounds .0);
-        within = omega (arith, one .at, entry-within h file at here (going .good));
+        within = omega (arith, one .at, entry-within h file at (first-good h file at here (going .good)));
         good =
             ap (λ (k : ℕ). goodEntries h (drop k file)) (one .at)
             ∙ sym (good-here h file at here (first-good h file at here (going .good))) ∙ going .good;

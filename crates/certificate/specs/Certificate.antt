@@ -7,35 +7,20 @@ use Prim.Native.Nat.{ℕ}
 use lib.Dec.{leb}
 use lib.ListN.{length, drop}
 use Rattle.lines.specs.Write.{atFront, leftBy}
-use Rattle.questions.specs.declared.question.Question.{Question}
-use Rattle.readings.specs.Reading.{numberOf, valuesTaken}
-use Rattle.judging.specs.Judge.{judgeOf}
-use Rattle.reader.specs.Read.{valuesOn}
-use Rattle.jobs.specs.declared.Header.{Header}
-use Rattle.jobs.specs.Format.{Entry, headSize, asked}
+use Rattle.jobs.specs.Format.{headSize}
 use Rattle.jobs.specs.Check.{headerIn, entriesIn, goodFile}
 use Rattle.letters.specs.declared.Standing.{Standing}
 use Rattle.letters.specs.Letters.{Heard, standingAfter}
+use Rattle.listening.specs.Listening.{heardOf, numberFor}
 use Rattle.printing.specs.Text.{certificateText}
 use Rattle.certificate.specs.declared.Certified.{Certified}
 use Rattle.certificate.specs.declared.Certified.the-variants.{Bytes, File, Room}
-
--- what the reader says of a line and hands out, with room for the values of 32 devices
-abbrev pub heardAs : Question → (line : List ℕ) → Heard
-heardAs q line = record { question = q; reading = judgeOf q line 32; values = valuesOn line (valuesTaken (judgeOf q line 32)) }
-
--- an entry heard: the reader called on its question and words
-abbrev pub heardOf : Header → Entry → Heard
-heardOf h e = heardAs (asked h e) (e .words)
 
 -- the entries of a file heard, in their order
 abbrev pub heardIn : (file : List ℕ) → List Heard
 heardIn file = map (heardOf (headerIn file)) (entriesIn (drop headSize file))
 
 -- the number of each entry: 0 for accepted
-abbrev pub numberFor : Heard → ℕ
-numberFor e = numberOf (e .reading)
-
 abbrev pub numbersOf : List Heard → List ℕ
 numbersOf es = map numberFor es
 

@@ -4,30 +4,20 @@ use mathlib.Core.List.{List}
 use Prim.Native.Nat.{ℕ, _+_, _≤_}
 use lib.ListN.{length, take, drop, set}
 use Rattle.jobs.specs.declared.Header.{Header}
-use Rattle.jobs.specs.Check.{sizeIn, entryIn}
-use Rattle.letters.specs.declared.Standing.{Standing}
-use Rattle.letters.specs.Letters.{Heard, hearOf}
+use Rattle.jobs.specs.Check.{sizeIn}
+use Rattle.listening.specs.Listening.{numberFor, heardHere, listenedTo}
 use Rattle.printing.specs.declared.Printed.{Printed}
 use Rattle.printing.specs.declared.Printed.the-variants as printed
 use Rattle.certificate.specs.declared.Certified.{Certified}
 use Rattle.certificate.specs.declared.Certified.the-variants.{Bytes, File, Room}
-use Rattle.certificate.specs.declared.AfterEntry.{AfterEntry}
 use Rattle.certificate.specs.declared.Told.{Told}
-use Rattle.certificate.specs.Certificate.{heardOf, numberFor, numbersOf, heardIn, standingOf}
-
--- the letters after an entry, and its number
-abbrev pub heardNow : Standing → Heard → AfterEntry
-heardNow s e = record { number = numberFor e; standing = hearOf s (e .question) (e .reading) (e .values) }
-
--- the entry at the front of some bytes, heard
-abbrev pub heardHere : Header → (front : List ℕ) → Heard
-heardHere h front = heardOf h (entryIn front)
+use Rattle.certificate.specs.Certificate.{numbersOf, heardIn, standingOf}
 
 -- one entry more
 pub record ToldOne (h : Header) (file : List ℕ) (told : Told) (before after : List ℕ) (r : Told) : Type 0 where
   pub at : r .at ≡ told .at + sizeIn (drop (told .at) file)
   pub entries : r .entries ≡ told .entries + 1
-  pub standing : r .standing ≡ heardNow (told .standing) (heardHere h (drop (told .at) file)) .standing
+  pub standing : r .standing ≡ listenedTo (told .standing) (heardHere h (drop (told .at) file)) (sizeIn (drop (told .at) file)) .standing
   pub numbers : after ≡ set before (told .entries) (numberFor (heardHere h (drop (told .at) file)))
 
 -- all entries

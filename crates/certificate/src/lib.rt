@@ -28,12 +28,6 @@ pub enum Certified {
 // Memory of this size holds every certificate.
 pub const MOST_TEXT: usize = 82143;
 
-// What an entry comes to: document 01's number of the reading, and the letters after it.
-pub struct AfterEntry {
-    pub number: u8,
-    pub standing: Standing,
-}
-
 // How far the entries are told: where the next one stands, how many there were, and the letters.
 pub struct Told {
     pub at: usize,

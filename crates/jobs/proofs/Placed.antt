@@ -1,8 +1,8 @@
--- What `open` and `next_entry` say, taken apart: a file turned away is no job file; where good entries are left, the next one is there.
-use mathlib.Core.Path.{_≡_, sym, ap, subst, _∙_}
+-- What `open` and `next_entry` say, taken apart: a file turned away is no job file; where a good entry stands, it is the next one.
+use mathlib.Core.Path.{_≡_, refl, sym, ap, subst, _∙_}
 use mathlib.Core.Bool.{Bool, true, false, cond}
 use mathlib.Core.List.{List, [], _∷_}
-use Prim.Native.Nat.{ℕ, _+_, _*_, _≤_, _<_}
+use Prim.Native.Nat.{ℕ, _+_, _*_, _≤_}
 use native.Mathlib.Omega.{arith}
 use denote.Enum.Declared.{tagOf}
 use types.Run.{OneOf, miss}
@@ -17,20 +17,32 @@ use Rattle.jobs.specs.declared.Opened.{Opened}
 use Rattle.jobs.specs.declared.Next.{Next}
 use Rattle.jobs.specs.declared.Next.the-variants as next
 use Rattle.jobs.specs.Format.{fieldSize}
-use Rattle.jobs.specs.Check.{wordsIn, sizeIn, entryIn, askedIn, goodEntry, goodEntries, placedIn, nextOf, goodFile, openedOf}
+use Rattle.jobs.specs.Check.{wordsIn, sizeIn, entryIn, askedIn, goodEntry, placedIn, nextIn, nextOf, goodFile, openedOf}
 use Rattle.jobs.proofs.Opened as opened-file
 use Rattle.jobs.proofs.Next as next-entry
+use Rattle.jobs.proofs.Sizes.{field-bounds}
 use Rattle.jobs.proofs.GoodEntry.{good, next-is}
-use Rattle.jobs.proofs.Entries.{first-good, opened-good}
+use Rattle.jobs.proofs.Entries.{opened-good}
 
-module _ (h : Header) (file : List ℕ) (at : ℕ) (here : at < length file) (ok : goodEntries h (drop at file) ≡ true) where
-  this-good : goodEntry h (drop at file) ≡ true
-  this-good = first-good h file at here ok
+-- an entry is said only where a good one stands
+pub entry-stands : (h : Header) (file : List ℕ) (at : ℕ) (r : Next) (e : EntryAt) (c : Cursor) → r ≡ nextOf h file (record { at = at }) → r ≡ next.Entry e c
+    → goodEntry h (drop at file) ≡ true
+unfolding nextOf
+entry-stands h file at r e c says is = by-bytes (drop at file) (sym says ∙ is)
+  where
+    by-test : (t : Bool) (n : Next) → cond t n next.File ≡ next.Entry e c → t ≡ true
+    by-test true n same = refl
+    by-test false n same = let z : _≡_ {A = ℕ} 0 1 = cc in absurd (omega arith)
 
+    by-bytes : (l : List ℕ) → nextIn h at l ≡ next.Entry e c → goodEntry h l ≡ true
+    by-bytes [] same = let z : _≡_ {A = ℕ} 0 1 = cc in absurd (omega arith)
+    by-bytes (b ∷ l) same = by-test (goodEntry h (b ∷ l)) (placedIn h at (b ∷ l)) same
+
+module _ (h : Header) (file : List ℕ) (at : ℕ) (this-good : goodEntry h (drop at file) ≡ true) where
   pub found : nextOf h file (record { at = at }) ≡ placedIn h at (drop at file)
   unfolding nextOf
   found =
-      next-is h (drop at file) at (omega (arith, length-drop at file))
+      next-is h (drop at file) at (omega (arith, good h (drop at file) this-good .whole, field-bounds .0))
       ∙ ap (λ (t : Bool). cond t (placedIn h at (drop at file)) next.File) this-good
 
   -- so that the other answers do not come
@@ -52,7 +64,7 @@ module _ (h : Header) (file : List ℕ) (at : ℕ) (here : at < length file) (ok
   entry-words = good h (drop at file) this-good .words
 
   pub entry-within : at + sizeIn (drop at file) ≤ length file
-  entry-within = omega (arith, good h (drop at file) this-good .whole, length-drop at file)
+  entry-within = omega (arith, good h (drop at file) this-good .whole, length-drop at file, field-bounds .0)
 
   -- the words behind its fields
   pub words-there : wordsOf (take (2 * wordsIn (drop at file)) (drop (at + fieldSize) file)) ≡ entryIn (drop at file) .words

@@ -97,7 +97,7 @@ fn question_in(header: Header, front: &[u8]) -> Question
     let kind = front[0];
     let reg = front[1];
     let value = join(front[2], front[3]);
-    let device = front[4];
-    let seed = front[5];
+    let device = front[BEHIND_VALUE];
+    let seed = front[BEHIND_VALUE + 1];
     ask(kind, header.n, header.alive, reg, value, device, seed)
 }

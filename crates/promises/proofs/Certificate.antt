@@ -18,7 +18,8 @@ use Rattle.letters.specs.Letters.{standingAfter}
 use Rattle.letters.specs.Meaning.{None, goodWrite}
 use Rattle.letters.proofs.Meaning.{given-is-deserved, deserved-is-given, no-write-no-letter}
 use Rattle.printing.specs.Text.{headLine, certificateText}
-use Rattle.certificate.specs.Certificate.{heardOf, numbersOf, certificateOf, certifiedOf, CertificateDone, certifiedNumber}
+use Rattle.listening.specs.Listening.{heardOf}
+use Rattle.certificate.specs.Certificate.{numbersOf, certificateOf, certifiedOf, CertificateDone, certifiedNumber}
 use Rattle.certificate.specs.declared.Certified.{Certified}
 use Rattle.certificate.specs.declared.Certified.the-variants as certified
 use Rattle.certificate.proofs.Answered.{Answered, no-job, no-room, all, answered, written-out}

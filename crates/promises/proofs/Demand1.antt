@@ -38,7 +38,7 @@ use Rattle.promises.proofs.ByNumber.{Small, below-256}
 use Rattle.promises.proofs.Rows.{by-number}
 use Rattle.promises.proofs.CallsByNumber.{enough-room, short-of-room, command-due, powered-due, powered-bytes-due, chain-due, step-due, span-due}
 use Rattle.promises.proofs.CallsByNumber.{step-bytes-due, cell-due, cell-into-due, cells-into-due}
-use Rattle.promises.proofs.JobNumbers.{opened-by-number, next-by-number, printed-by-number}
+use Rattle.promises.proofs.JobNumbers.{opened-by-number, next-by-number, listened-by-number, nothing-by-number, printed-by-number}
 use Rattle.promises.proofs.JobNumbers.{certified-by-number, certificate-bytes-by-number, rehearsed-by-number}
 use Rattle.promises.proofs.RefusedWritesNothing.{refused-read, refused-command, refused-power-on, refused-step}
 use Rattle.promises.proofs.RefusedWritesNothing.{refused-print, refused-certificate, refused-rehearsal}
@@ -142,6 +142,10 @@ demand-1 = record {
       one refl (λ after r done. (done, nothing after)) (opened-by-number file small) (λ after r done away. nothing after);
   next-entry = λ h file c small.
       one refl (λ after r done. (done, nothing after)) (next-by-number h file c small) (λ after r done away. nothing after);
+  listen = λ h e later s fits rules.
+      one refl (λ after r done. (done, nothing after)) (listened-by-number h e later s fits rules) (λ after r done away. nothing after);
+  listen-file = λ h front s small none.
+      one refl (λ after r done. (done, nothing after)) (nothing-by-number h front s small none) (λ after r done away. nothing after);
   print = λ n numbers s text.
       one (record { says = refl; leaves = refl }) (λ after r done. (done .says, done .leaves)) (printed-by-number n numbers s text)
       (refused-print n numbers s text);

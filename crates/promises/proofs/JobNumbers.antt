@@ -4,21 +4,25 @@
 use mathlib.Core.Path.{_≡_, refl, sym, ap, subst, _∙_}
 use mathlib.Core.Bool.{Bool, true, false, cond, false≢true}
 use mathlib.Core.Logic.{_⊎_, inl, inr, ⊎-elim}
-use mathlib.Core.List.{List, [], _∷_}
+use mathlib.Core.List.{List, [], _∷_, _++_}
 use Prim.Native.Nat.{ℕ, _%_, _≤_, _<_}
 use native.Mathlib.Omega.{arith}
 use lib.Dec.{leb}
 use lib.ListN.{length, drop}
 use borrow.Author.Tests.{leb-true, leb-false}
+use Rattle.ground.proofs.Test.{refuted}
 use Rattle.remainder.specs.Turned.{Bytes}
+use Rattle.readings.specs.Reading.{numberOf}
+use Rattle.judging.specs.Judge.{judgeOf}
 use Rattle.jobs.specs.declared.Header.{Header}
-use Rattle.jobs.specs.Format.{Entry, headSize}
+use Rattle.jobs.specs.Format.{Entry, headSize, entryBytes, asked}
+use Rattle.jobs.specs.Rules.{keepsRules}
 use Rattle.jobs.specs.declared.Cursor.{Cursor}
 use Rattle.jobs.specs.declared.Opened.the-variants as opened
 use Rattle.jobs.specs.declared.Next.the-variants as next
 use Rattle.jobs.specs.Check.{headerIn, sizeIn, entryIn, entriesIn, goodEntry, goodFile, placedIn, openedOf, openedNumber, nextIn, nextOf, nextNumber}
-use Rattle.jobs.specs.Encoded.{Encodes}
-use Rattle.jobs.proofs.OneEntry.{entry-good, good-is-written, drop-bytes}
+use Rattle.jobs.specs.Encoded.{Fits, Encodes}
+use Rattle.jobs.proofs.OneEntry.{entry-back, entry-good, good-is-written, drop-bytes}
 use Rattle.jobs.proofs.GoodFile.{encoded-is-good, good-is-encoded}
 use Rattle.letters.specs.declared.Standing.{Standing}
 use Rattle.printing.specs.Text.{certificateText}
@@ -28,11 +32,14 @@ use Rattle.certificate.specs.Certificate.{certificateOf, certifiedOf, certified
 use Rattle.certificate.specs.declared.Certified.{Certified}
 use Rattle.certificate.specs.declared.Certified.the-variants as certified
 use Rattle.certificate.proofs.Answered.{Answered, no-job, no-room, all, answered}
+use Rattle.listening.specs.Listening.{heardHere, listenedTo, nothingHeard, listenOf}
 use Rattle.rehearsal.specs.Rehearsal.{rehearsalOf, rehearsedOf, rehearsedNumber}
 use Rattle.rehearsal.specs.declared.Rehearsed.the-variants as rehearsed
 use Rattle.bmc.specs.Exports.{packedCertified, CertificateBytesDone}
-use Rattle.promises.specs.ByNumber.{NumberDue}
+use Rattle.promises.specs.ByNumber.{row, NumberDue}
+use Rattle.promises.specs.Rows.{readRows}
 use Rattle.promises.specs.CallRows.{NoJobFile, NoEntry, openRows, nextRows, printRows, certifyRows, rehearseRows}
+use Rattle.promises.proofs.Rows.{by-number}
 use Rattle.promises.proofs.CallsByNumber.{enough-room, short-of-room}
 
 -- a test of the bytes, in place of what it says of them
@@ -72,6 +79,31 @@ next-by-number h file c small = by-rest (drop (c .at) file) (drop-bytes (c .at) 
             → NumberDue (nextRows h (b ∷ rest)) (nextNumber (cond good (placedIn h (c .at) (b ∷ rest)) next.File))
         by-test true good = inr ((λ some. good-is-an-entry h (b ∷ rest) few good (some .1)), refl)
         by-test false bad = inl ((omega arith, bad-is-no-entry h (b ∷ rest) bad), refl)
+
+-- ---- an entry heard
+
+pub listened-by-number : (h : Header) (e : Entry) (later : List ℕ) (s : Standing) → Fits e → keepsRules h e ≡ true
+    → NumberDue (readRows (asked h e) (e .words) 32) (listenOf h (entryBytes e ++ later) s .number)
+unfolding listenOf
+listened-by-number h e later s fits rules = subst (NumberDue (readRows (asked h e) (e .words) 32)) (sym heard) (by-number (asked h e) (e .words) 32)
+  where
+    front : List ℕ
+    front = entryBytes e ++ later
+
+    number : Entry → ℕ
+    number x = numberOf (judgeOf (asked h x) (x .words) 32)
+
+    heard : listenOf h front s .number ≡ number e
+    heard =
+        ap (λ (t : Bool). cond t (listenedTo s (heardHere h front) (sizeIn front)) (nothingHeard s) .number) (entry-good e fits later h rules)
+        ∙ ap number (entry-back e fits later)
+
+pub nothing-by-number : (h : Header) (front : List ℕ) (s : Standing) → Bytes front → NoEntry h front
+    → NumberDue (row 14 (NoEntry h front) ∷ []) (listenOf h front s .number)
+unfolding listenOf
+nothing-by-number h front s small none =
+    let bad = refuted (goodEntry h front) (λ good. good-is-an-entry h front small good none) in
+    inl (none, ap (λ (t : Bool). cond t (listenedTo s (heardHere h front) (sizeIn front)) (nothingHeard s) .number) bad)
 
 -- ---- a text printed
 

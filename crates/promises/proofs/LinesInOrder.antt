@@ -12,7 +12,8 @@ use Rattle.questions.specs.Question.{covers}
 use Rattle.letters.specs.Letters.{Heard}
 use Rattle.letters.specs.declared.Standing.{Standing}
 use Rattle.printing.specs.Text.{entryLine, deviceLine, deviceLineIf, firstLines, entryLines, deviceLines}
-use Rattle.certificate.specs.Certificate.{numberFor, numbersOf}
+use Rattle.listening.specs.Listening.{numberFor}
+use Rattle.certificate.specs.Certificate.{numbersOf}
 use Rattle.promises.specs.Certificate.{entryLinesFrom, Lettered, deviceLinesOf, RisingFrom, HasLine, here, later}
 
 -- ---- lines, one behind the other

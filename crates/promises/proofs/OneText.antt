@@ -13,8 +13,8 @@ use Rattle.jobs.specs.declared.Header.{Header}
 use Rattle.jobs.specs.Format.{Entry, asked}
 use Rattle.letters.specs.Letters.{Heard}
 use Rattle.letters.specs.Meaning.{Deserves}
-use Rattle.certificate.specs.Certificate.{heardOf}
-use Rattle.certificate.proofs.OneHeard.{values-read}
+use Rattle.listening.specs.Listening.{heardOf}
+use Rattle.listening.proofs.OneHeard.{values-read}
 use Rattle.promises.specs.Certificate.{FromReader, AllFromReader, Lettered, linesOf, RisingFrom, HasLine, here, later, CertificateText}
 use Rattle.promises.proofs.LinesInOrder.{no-line}
 

@@ -3,9 +3,9 @@
 -- contract, and no other; the answer has the number that is due by document 01's rows, in the order of their checks, and 0 where none is given;
 -- where it has a row's number, whichever row, the memory is as it was. (That a call comes to an end is part of its function's own check.)
 use mathlib.Core.Path.{_≡_}
-use mathlib.Core.Bool.{false}
+use mathlib.Core.Bool.{true, false}
 use mathlib.Core.Logic.{_⊎_}
-use mathlib.Core.List.{List, [], _∷_}
+use mathlib.Core.List.{List, [], _∷_, _++_}
 use Prim.Native.Nat.{ℕ, suc, _/_, _%_, _≤_, _<_}
 use lib.IntN.{ℤ}
 use lib.Ieee.{Float}
@@ -29,8 +29,13 @@ use Rattle.registers.specs.Memory.{PoweredOn, poweredNumber}
 use Rattle.twin.specs.Step.{StepDone, SpanDone, ChainDone, steppedNumber}
 use Rattle.jobs.specs.declared.Header.{Header}
 use Rattle.jobs.specs.declared.Cursor.{Cursor}
+use Rattle.jobs.specs.Format.{Entry, entryBytes, asked}
+use Rattle.jobs.specs.Rules.{keepsRules}
+use Rattle.jobs.specs.Encoded.{Fits}
 use Rattle.jobs.specs.Check.{openedOf, openedNumber, nextOf, nextNumber}
 use Rattle.letters.specs.declared.Standing.{Standing}
+use Rattle.listening.specs.declared.Listened.{Listened}
+use Rattle.listening.specs.Listening.{listenOf}
 use Rattle.printing.specs.Text.{certificateText}
 use Rattle.printing.specs.Print.{PrintDone, printedNumber}
 use Rattle.certificate.specs.Certificate.{CertificateDone, certifiedNumber}
@@ -42,10 +47,10 @@ use Rattle.c_cells.specs.CellBytes.{CellDone}
 use Rattle.c_cells.specs.CellsBytes.{CellsDone}
 use Rattle.c_twin.specs.TwinBytes.{PowerBytesDone, StepBytesDone}
 use Rattle.bmc.specs.Exports.{CertificateBytesDone}
-use Rattle.promises.specs.ByNumber.{Row, NumberDue}
+use Rattle.promises.specs.ByNumber.{Row, row, NumberDue}
 use Rattle.promises.specs.Rows.{readRows}
 use Rattle.promises.specs.CallRows.{room, commandRows, powerOnRows, chainRows, stepRows, spanRows, stepBytesRows}
-use Rattle.promises.specs.CallRows.{openRows, nextRows, printRows, certifyRows, rehearseRows}
+use Rattle.promises.specs.CallRows.{NoEntry, openRows, nextRows, printRows, certifyRows, rehearseRows}
 use Rattle.promises.specs.CallRows.{cellRows, cellIntoRows, cellsIntoRows}
 
 -- turned away: an answer's number is a row's, and not 0
@@ -112,9 +117,14 @@ pub record Demand1 : Type 0 where
   pub run-chain : (n : ℕ) (memory line out : List ℕ)
       → Answers {Memory = List ℕ × List ℕ} (chainRows n (length memory) (length out) (length line)) steppedNumber (memory, out)
       (λ after. ChainDone n memory (after .0) line out (after .1))
-  -- a job file opened and its entries taken out; a certificate printed
+  -- a job file opened, its entries taken out, and one heard; a certificate printed
   pub open-file : (file : List ℕ) → Bytes file → Replies (openRows file) openedNumber (openedOf file)
   pub next-entry : (h : Header) (file : List ℕ) (c : Cursor) → Bytes file → Replies (nextRows h (drop (c .at) file)) nextNumber (nextOf h file c)
+  -- (heard by the reader's own rows, with room for the values of 32 devices, where the bytes begin with an entry that keeps the rules; else FILE)
+  pub listen : (h : Header) (e : Entry) (later : List ℕ) (s : Standing) → Fits e → keepsRules h e ≡ true
+      → Replies (readRows (asked h e) (e .words) 32) (λ (r : Listened). r .number) (listenOf h (entryBytes e ++ later) s)
+  pub listen-file : (h : Header) (front : List ℕ) (s : Standing) → Bytes front → NoEntry h front
+      → Replies (row 14 (NoEntry h front) ∷ []) (λ (r : Listened). r .number) (listenOf h front s)
   pub print : (n : ℕ) (numbers : List ℕ) (s : Standing) (text : List ℕ)
       → Answers (printRows (length numbers) (length text) (length (certificateText n numbers s))) printedNumber text (PrintDone n numbers s text)
   -- the certificate and the rehearsal, of every file of bytes

@@ -57,7 +57,7 @@ counting-first h file ok is at start = subst (λ (k : ℕ). Counting h file (rec
 module _ (h : Header) (file : List ℕ) (p : Places) (here : p .at < length file) (counting : Counting h file p) where
   pub counting-on : Counting h file (entryWith h file p)
   counting-on = record {
-    within = entry-within h file (p .at) here (counting .good);
+    within = entry-within h file (p .at) (first-good h file (p .at) here (counting .good));
     good = sym (good-here h file (p .at) here (first-good h file (p .at) here (counting .good))) ∙ counting .good;
     slow = omega (arith, counting .slow, few-words (askedIn h (drop (p .at) file)), field-bounds .0);
     sum = omega (arith, counting .sum, sizes-here h file (p .at) here);

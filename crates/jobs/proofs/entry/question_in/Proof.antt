@@ -1,8 +1,9 @@
 -- `question_in` meets its contract: each number from its place.
 use mathlib.Core.Path.{_≡_, subst}
-use Prim.Native.Nat.{ℕ}
+use Prim.Native.Nat.{ℕ, _+_}
 use lib.ListN.{getD}
 use Rattle.questions.specs.Question.{asking}
+use Rattle.jobs.specs.Format.{behindValue}
 use borrow.Author.Needs.{needs}
 use Rattle.jobs.proofs.entry.question_in.Statement.{statement}
 use Rattle.jobs.proofs.entry.question_in.Tie as tie
@@ -25,6 +26,9 @@ join-requires c κs = search needs
 shared-slice-read-device : tie.Need-shared-slice-read-device
 shared-slice-read-device c = search needs
 
+add-seed : tie.Need-add-seed
+add-seed c = search needs
+
 shared-slice-read-seed : tie.Need-shared-slice-read-seed
 shared-slice-read-seed c = search needs
 
@@ -35,7 +39,7 @@ returns : tie.Need-returns
 returns c =
     let front = c .before .before .before .before .before .before .before .before .before .args .front .now in
     let h = c .before .before .before .before .before .before .before .before .before .args .header in
-    subst (λ (v : ℕ). c .ask .result ≡ asking (getD front 0 0) (h .n) (h .alive) (getD front 1 0) v (getD front 4 0) (getD front 5 0)) (c .before .before .before .join .ensures) (c .ask .ensures)
+    subst (λ (v : ℕ). c .ask .result ≡ asking (getD front 0 0) (h .n) (h .alive) (getD front 1 0) v (getD front behindValue 0) (getD front (behindValue + 1) 0)) (c .before .before .before .join .ensures) (c .ask .ensures)
 
 pub question-in-spec : {M : Type 1} → statement M
 question-in-spec =
@@ -47,6 +51,7 @@ question-in-spec =
     shared-slice-read-join-2
     join-requires
     shared-slice-read-device
+    add-seed
     shared-slice-read-seed
     ask-requires
     returns)

@@ -4,6 +4,7 @@ use Prim.Native.Nat.{ℕ, _+_, _*_}
 use native.Mathlib.Omega.{arith}
 use Rattle.jobs.specs.declared.EntryAt.{EntryAt}
 use Rattle.jobs.proofs.Sizes.{field-bounds}
+use Rattle.jobs.proofs.Entries.{first-good}
 use Rattle.jobs.proofs.Placed.{no-other, placed}
 use Rattle.rehearsal.specs.Rehearsal.{answerWords}
 use Rattle.rehearsal.proofs.Sending.{few-words}
@@ -20,7 +21,7 @@ enum-known-next c = search needs
 returns : tie.Need-returns
 returns c =
     let a = c .before .before .before .args in
-    absurd (no-other (a .header) (a .file .now) (a .places .at) (c .before .before .before .pre .0) (c .before .before .before .pre .1) (c .before .next-entry .result) (c .before .next-entry .ensures) (c .match .keys2))
+    absurd (no-other (a .header) (a .file .now) (a .places .at) (first-good (a .header) (a .file .now) (a .places .at) (c .before .before .before .pre .0) (c .before .before .before .pre .1)) (c .before .next-entry .result) (c .before .next-entry .ensures) (c .match .keys2))
 
 field-size-requires : tie.Need-field-size-requires
 field-size-requires c κs = search needs
@@ -40,7 +41,7 @@ add-t12 c = omega (arith, c .answer-words .ensures, c .before .before .field-siz
 returns-2 : tie.Need-returns-2
 returns-2 c =
     let a = c .before .before .before .before .before .before .before .before .args in
-    let is = placed (a .header) (a .file .now) (a .places .at) (c .before .before .before .before .before .before .before .before .pre .0) (c .before .before .before .before .before .before .before .before .pre .1) (c .before .before .before .before .before .before .next-entry .result) (c .before .before .before .before .next .given .0 .0) (c .before .before .before .before .next .given .0 .1 .0) (c .before .before .before .before .before .before .next-entry .ensures) (c .before .before .before .before .next .given .1) in
+    let is = placed (a .header) (a .file .now) (a .places .at) (first-good (a .header) (a .file .now) (a .places .at) (c .before .before .before .before .before .before .before .before .pre .0) (c .before .before .before .before .before .before .before .before .pre .1)) (c .before .before .before .before .before .before .next-entry .result) (c .before .before .before .before .next .given .0 .0) (c .before .before .before .before .next .given .0 .1 .0) (c .before .before .before .before .before .before .next-entry .ensures) (c .before .before .before .before .next .given .1) in
     let words = c .answer-words .ensures ∙ ap (λ (e : EntryAt). answerWords (e .question)) (is .entry) in
     ap₂ (λ (at to : ℕ). record { at = at; to = to }) (is .after) (ap₂ (λ (k n : ℕ). a .places .to + k + 2 * n) (c .before .before .field-size .ensures) words)
 

@@ -5,6 +5,7 @@ use Prim.Native.Nat.{ℕ, _+_}
 use lib.ListN.{replicate, length-replicate, length-take}
 use Rattle.jobs.specs.declared.EntryAt.{EntryAt}
 use Rattle.jobs.proofs.Sizes.{field-bounds}
+use Rattle.jobs.proofs.Entries.{first-good}
 use Rattle.jobs.proofs.Placed.{no-other, placed}
 use Rattle.rehearsal.proofs.Sending.{few-words}
 use Rattle.rehearsal.proofs.Answering.{answered-one}
@@ -21,7 +22,7 @@ enum-known-next c = search needs
 returns : tie.Need-returns
 returns c =
     let a = c .before .before .before .before .before .args in
-    absurd (no-other (a .header) (a .file .now) (a .places .at) (c .before .before .before .before .before .pre .0) (c .before .before .before .before .before .pre .1) (c .before .next-entry .result) (c .before .next-entry .ensures) (c .match .keys2))
+    absurd (no-other (a .header) (a .file .now) (a .places .at) (first-good (a .header) (a .file .now) (a .places .at) (c .before .before .before .before .before .pre .0) (c .before .before .before .before .before .pre .1)) (c .before .next-entry .result) (c .before .next-entry .ensures) (c .match .keys2))
 
 slice-aggregate-send : tie.Need-slice-aggregate-send
 slice-aggregate-send c = search needs
@@ -62,7 +63,7 @@ same-length-2 c = search needs
 returns-2 : tie.Need-returns-2
 returns-2 c =
     let a = c .before .before .before .before .before .before .before .before .before .before .before .before .before .before .before .before .before .before .before .before .before .before .before .before .args in
-    let is = placed (a .header) (a .file .now) (a .places .at) (c .before .before .before .before .before .before .before .before .before .before .before .before .before .before .before .before .before .before .before .before .before .before .before .before .pre .0) (c .before .before .before .before .before .before .before .before .before .before .before .before .before .before .before .before .before .before .before .before .before .before .before .before .pre .1) (c .before .before .before .before .before .before .before .before .before .before .before .before .before .before .before .before .before .before .before .before .next-entry .result) (c .before .before .before .before .before .before .before .before .before .before .before .before .before .before .before .before .before .before .next .given .0 .0) (c .before .before .before .before .before .before .before .before .before .before .before .before .before .before .before .before .before .before .next .given .0 .1 .0) (c .before .before .before .before .before .before .before .before .before .before .before .before .before .before .before .before .before .before .before .before .next-entry .ensures) (c .before .before .before .before .before .before .before .before .before .before .before .before .before .before .before .before .before .before .next .given .1) in
+    let is = placed (a .header) (a .file .now) (a .places .at) (first-good (a .header) (a .file .now) (a .places .at) (c .before .before .before .before .before .before .before .before .before .before .before .before .before .before .before .before .before .before .before .before .before .before .before .before .pre .0) (c .before .before .before .before .before .before .before .before .before .before .before .before .before .before .before .before .before .before .before .before .before .before .before .before .pre .1)) (c .before .before .before .before .before .before .before .before .before .before .before .before .before .before .before .before .before .before .before .before .next-entry .result) (c .before .before .before .before .before .before .before .before .before .before .before .before .before .before .before .before .before .before .next .given .0 .0) (c .before .before .before .before .before .before .before .before .before .before .before .before .before .before .before .before .before .before .next .given .0 .1 .0) (c .before .before .before .before .before .before .before .before .before .before .before .before .before .before .before .before .before .before .before .before .next-entry .ensures) (c .before .before .before .before .before .before .before .before .before .before .before .before .before .before .before .before .before .before .next .given .1) in
     answered-one (a .header) (a .file .now) (a .memory .now) _ (c .before .before .before .before .before .before .before .before .before .before .before .before .before .send .last .1 .1 .1 .0) (a .out .now) _ _ (a .places) (c .before .before .before .before .before .before .before .before .before .before .before .before .before .before .before .before .before .before .next .given .0 .0 .question) (c .before .before .before .before .before .before .before .before .before .before .before .before .before .send .result) _ _
     (ap (λ (e : EntryAt). e .question) (is .entry)) (c .before .before .before .before .before .before .before .before .before .before .before .before .before .send .ensures) (c .before .before .before .before .before .before .before .before .put-fields .ensures) (ap (λ (k : ℕ). a .places .to + k) (c .before .before .before .before .before .field-size .ensures)) (c .before .before .put-words .ensures) (is .after)
 

@@ -7,10 +7,10 @@ use lib.Seq.{length-sets}
 use Rattle.packing.specs.Words.{wordsOf}
 use Rattle.readings.specs.Reading.{valuesTaken}
 use Rattle.judging.proofs.Accepted.{values-fit}
-use Rattle.certificate.proofs.OneHeard.{line-read, heard-is}
+use Rattle.listening.proofs.OneHeard.{line-read, heard-is}
 use borrow.Author.Needs.{needs}
-use Rattle.certificate.proofs.entries.hear_entry.Statement.{statement}
-use Rattle.certificate.proofs.entries.hear_entry.Tie as tie
+use Rattle.listening.proofs.hear_entry.Statement.{statement}
+use Rattle.listening.proofs.hear_entry.Tie as tie
 
 mul-end : tie.Need-mul-end
 mul-end c = search needs
@@ -46,7 +46,7 @@ slice-aggregate-read : tie.Need-slice-aggregate-read
 slice-aggregate-read c =
     let a = c .before .before .before .before .before .before .before .before .before .args in
     let from = a .entry .start in
-    let words = wordsOf (take (from + 2 * a .entry .words - from) (drop from (a .file .now))) in
+    let words = wordsOf (take (from + 2 * a .entry .words - from) (drop from (a .front .now))) in
     simp length-take (omega (arith, c .before .before .before .before .before .before .before .before .before .pre .0, ap length (c .before .before .before .unpack .ensures), length-sets (c .before .before .before .before .before .before .blank-line .result) 0 words, c .before .before .before .before .before .before .blank-line .ensures))
 
 slice-aggregate-read-2 : tie.Need-slice-aggregate-read-2
@@ -76,19 +76,22 @@ hear-requires c κs = search needs
 number-of-requires : tie.Need-number-of-requires
 number-of-requires c κs = search needs
 
+has-values-requires : tie.Need-has-values-requires
+has-values-requires c κs = search needs
+
 returns : tie.Need-returns
 returns c =
-    let a = c .before .before .before .before .before .before .before .before .before .before .before .before .before .before .before .before .args in
+    let a = c .before .before .before .before .before .before .before .before .before .before .before .before .before .before .before .before .before .args in
     let words = a .entry .words in
     let from = a .entry .start in
-    let file = a .file .now in
-    let part = take (from + 2 * words - from) (drop from file) in
+    let front = a .front .now in
+    let part = take (from + 2 * words - from) (drop from front) in
     let span : from + 2 * words - from ≡ 2 * words = omega arith in
-    let even : length part ≡ 2 * words = omega (arith, length-take (from + 2 * words - from) (drop from file), length-drop from file, c .before .before .before .before .before .before .before .before .before .before .before .before .before .before .before .before .pre .1) in
-    let line = ap (take words) (c .before .before .before .before .before .before .before .before .before .before .unpack .ensures) ∙ line-read (c .before .before .before .before .before .before .before .before .before .before .before .before .before .blank-line .result) part words even (omega (arith, c .before .before .before .before .before .before .before .before .before .before .before .before .before .before .before .before .pre .0, c .before .before .before .before .before .before .before .before .before .before .before .before .before .blank-line .ensures))
-    ∙ ap (λ (n : ℕ). wordsOf (take n (drop from file))) span in
-    heard-is (a .standing) (c .before .hear .result) (a .entry .question) (wordsOf (take (2 * words) (drop from file))) _ (c .before .before .before .before .before .before .before .before .blank-values .result) _ (c .before .before .before .before .before .read .result) (c .before .before .before .values-taken .result) (c .number-of .result)
-    line (c .before .before .before .before .before .before .before .before .blank-values .ensures) (c .before .before .before .before .before .read .ensures) (c .before .before .before .values-taken .ensures) (c .number-of .ensures) (c .before .hear .ensures)
+    let even : length part ≡ 2 * words = omega (arith, length-take (from + 2 * words - from) (drop from front), length-drop from front, c .before .before .before .before .before .before .before .before .before .before .before .before .before .before .before .before .before .pre .1) in
+    let line = ap (take words) (c .before .before .before .before .before .before .before .before .before .before .before .unpack .ensures) ∙ line-read (c .before .before .before .before .before .before .before .before .before .before .before .before .before .before .blank-line .result) part words even (omega (arith, c .before .before .before .before .before .before .before .before .before .before .before .before .before .before .before .before .before .pre .0, c .before .before .before .before .before .before .before .before .before .before .before .before .before .before .blank-line .ensures))
+    ∙ ap (λ (n : ℕ). wordsOf (take n (drop from front))) span in
+    heard-is (a .standing) (c .before .before .hear .result) (a .entry .question) (wordsOf (take (2 * words) (drop from front))) _ (c .before .before .before .before .before .before .before .before .before .blank-values .result) _ (c .before .before .before .before .before .before .read .result) (c .before .before .before .before .values-taken .result) (c .before .number-of .result) (from + 2 * words) (c .has-values .result)
+    line (c .before .before .before .before .before .before .before .before .before .blank-values .ensures) (c .before .before .before .before .before .before .read .ensures) (c .before .before .before .before .values-taken .ensures) (c .before .number-of .ensures) (c .has-values .ensures) (c .before .before .hear .ensures)
 
 pub hear-entry-spec : {M : Type 1} → statement M
 hear-entry-spec =
@@ -112,4 +115,5 @@ hear-entry-spec =
     slice-aggregate-hear
     hear-requires
     number-of-requires
+    has-values-requires
     returns)

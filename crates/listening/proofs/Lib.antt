@@ -1,0 +1,3 @@
+pub mod OneHeard
+pub mod Listening
+pub mod Agree
