@@ -11,6 +11,7 @@ use Rattle.readings.specs.Reading.{numberOf, placeOf, byteOf, countOf, valuesTa
 use Rattle.readings.specs.Packed.{packedReading}
 use Rattle.readings.specs.declared.Reading.{Reading}
 use Rattle.readings.specs.declared.Reading.the-variants.{Counted, Written, Values, Refused}
+use Rattle.judging.specs.Judge.{judgeOf}
 use Rattle.judging.proofs.Accepted.{values-fit}
 use Rattle.judging.proofs.Bounds.{place-most}
 use Rattle.judging.proofs.SmallBytes.{carriedByte, small-byte}
@@ -80,8 +81,9 @@ whole-reading q line before =
 
 pub c-side-packed : CSidePacked
 unfolding readingOn
-c-side-packed c line before after r done =
-    let reading = readingOn (askedBy c) line before in (
-      subst (λ (x : ℕ). TakenApart x reading) (sym (done .says)) (apart reading (whole-reading (askedBy c) line before)),
-      λ why is. carried (askedBy c) (lineOn line) (length before / 2) why is,
-    )
+c-side-packed c line before after r done values left reading room read =
+    let q = askedBy c in
+    let same : readingOn q line before ≡ reading = sym (read .says ∙ ap (judgeOf q (lineOn line)) room) in
+    let packed : TakenApart r (readingOn q line before) =
+    subst (λ (x : ℕ). TakenApart x (readingOn q line before)) (sym (done .says)) (apart (readingOn q line before) (whole-reading q line before)) in
+    (subst (TakenApart r) same packed, λ why is. carried q (lineOn line) (length before / 2) why (same ∙ is))

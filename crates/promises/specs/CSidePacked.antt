@@ -1,16 +1,19 @@
 -- THE C SIDE, TAKEN APART: what is packed into one number can be had back from it. Bits 0 to 7 are the reading's own number; of a reading turned
 -- away bits 8 to 15 are its byte (CHECK, COUNT) and bits 16 to 31 its place (CHARACTER, MANCHESTER); of an accepted one they are HELLOALL's
--- count and the number of values; the byte and the place are those that stand on the line, as document 01's row says. Claimed of every question's seven numbers, every line of bytes, every output, and every answer that meets
--- `bmc_read`'s contract.
+-- count and the number of values; the byte and the place are those that stand on the line, as document 01's row says. Claimed of every question's
+-- seven numbers, every line of bytes, every output, and every answer that meets `bmc_read`'s contract; the reading is `read`'s, on the words of the
+-- line, with room for as many values as the output has two bytes.
 use mathlib.Core.Path.{_≡_}
 use mathlib.Core.List.{List}
-use Prim.Native.Nat.{ℕ}
+use Prim.Native.Nat.{ℕ, _/_}
+use lib.ListN.{length}
 use Rattle.readings.specs.Reading.{numberOf, placeOf, byteOf, countOf, valuesTaken}
 use Rattle.packing.specs.Words.{lineOn}
 use Rattle.readings.specs.declared.Refusal.{Refusal}
 use Rattle.readings.specs.declared.Reading.{Reading}
 use Rattle.readings.specs.declared.Reading.the-variants.{Refused}
-use Rattle.c_reader.specs.ReadBytes.{readingOn, ReadBytesDone}
+use Rattle.reader.specs.Read.{ReadDone}
+use Rattle.c_reader.specs.ReadBytes.{ReadBytesDone}
 use Rattle.promises.specs.Demand1.{TurnedAway, packedNumber}
 use Rattle.promises.specs.Rows.{Carried}
 use Rattle.promises.specs.CSide.{Numbers, askedBy, middleByte, upperHalf}
@@ -25,5 +28,5 @@ pub record TakenApart (r : ℕ) (reading : Reading) : Type 0 where
 abbrev pub CSidePacked : Type 0
 CSidePacked =
     (c : Numbers) (line before after : List ℕ) (r : ℕ) → ReadBytesDone (askedBy c) line before after r
-    → TakenApart r (readingOn (askedBy c) line before)
-    × ((why : Refusal) → readingOn (askedBy c) line before ≡ Refused why → Carried (askedBy c) (lineOn line) why)
+    → (values left : List ℕ) (reading : Reading) → length values ≡ length before / 2 → ReadDone (askedBy c) (lineOn line) values left reading
+    → TakenApart r reading × ((why : Refusal) → reading ≡ Refused why → Carried (askedBy c) (lineOn line) why)
