@@ -5,13 +5,13 @@ use mathlib.Core.Bool.{true, false, false≢true}
 use mathlib.Core.List.{List, [], _∷_, _++_, map}
 use Prim.Native.Nat.{ℕ, _%_, _≤_}
 use native.Mathlib.Omega.{arith}
-use lib.ListN.{length, drop}
+use lib.ListN.{length}
 use Rattle.remainder.specs.Turned.{Bytes}
 use Rattle.lines.specs.Write.{atFront}
 use Rattle.lines.proofs.LeftBy.{left-written}
 use Rattle.jobs.specs.declared.Header.{Header}
-use Rattle.jobs.specs.Format.{Entry, headSize}
-use Rattle.jobs.specs.Check.{headerIn, entriesIn, goodFile}
+use Rattle.jobs.specs.Format.{Entry}
+use Rattle.jobs.specs.Check.{goodFile}
 use Rattle.jobs.specs.Encoded.{Encodes}
 use Rattle.jobs.proofs.GoodFile.{header-read, entries-read, encoded-is-good, good-is-encoded}
 use Rattle.letters.specs.Letters.{standingAfter}
@@ -25,7 +25,7 @@ use Rattle.certificate.specs.declared.Certified.the-variants as certified
 use Rattle.certificate.proofs.Answered.{Answered, no-job, no-room, all, answered, written-out}
 use Rattle.certificate.proofs.Longest.{fits-every-certificate}
 use Rattle.bmc.specs.Exports.{packedCertified, CertificateBytesDone}
-use Rattle.promises.specs.Certificate.{Lettered, linesOf, HasLine, here, CertificateText, CertificateDue, Wrote, WrotePacked, PrintedCertificate}
+use Rattle.promises.specs.Certificate.{Lettered, linesOf, HasLine, here, CertificateText, TextFor, CertificateDue, Wrote, WrotePacked, PrintedCertificate}
 use Rattle.promises.proofs.OwnLetter.{deserving-below}
 use Rattle.promises.proofs.LinesInOrder.{entry-lines, letteredFrom, device-lines, lettered-rising, line-stands, standing-line}
 use Rattle.promises.proofs.OneText.{all-from-reader, one-text}
@@ -55,6 +55,13 @@ text-of h es file encoded =
           ∙ ap₂ (λ (e d : List ℕ). headLine (h .n) ++ (e ++ d)) (entry-lines xs) (device-lines s);
     }
 
+-- so a job file has this text, and no other
+pub text-for : (h : Header) (es : List Entry) (file : List ℕ) → Encodes h es file → TextFor file (certificateOf file)
+text-for h es file encoded = record { header = h; entries = es; encoded = encoded; printed = text-of h es file encoded }
+
+pub only-text : (file text : List ℕ) → TextFor file text → certificateOf file ≡ text
+only-text file text is = one-text (is .header) (is .entries) (certificateOf file) text (text-of (is .header) (is .entries) file (is .encoded)) (is .printed)
+
 -- ---- `certify`
 
 module _ (file before after : List ℕ) (r : Certified) (done : CertificateDone file before after r) where
@@ -73,23 +80,16 @@ module _ (file before after : List ℕ) (r : Certified) (done : CertificateDone 
       by-answer _ (all good room) e =
           let encoded = good-is-encoded file small good in (
             certificateOf file,
-            record {
-              header = headerIn file;
-              entries = entriesIn (drop headSize file);
-              encoded = encoded;
-              printed = text-of (headerIn file) (entriesIn (drop headSize file)) file encoded;
-              room = omega (arith, room);
-            },
+            (text-for _ _ file encoded, omega (arith, room)),
             wrote good room,
           )
 
   always-then : (text : List ℕ) → CertificateDue file text before → (certifiedNumber r ≡ 0) × Wrote text before after r
   always-then text due =
-      let h = due .header in
-      let es = due .entries in
-      let same = one-text h es (certificateOf file) text (text-of h es file (due .encoded)) (due .printed) in
+      let is = due .0 in
+      let same = only-text file text is in
       let written = subst (λ (l : List ℕ). Wrote l before after r) same
-      (wrote (encoded-is-good h es file (due .encoded)) (omega (arith, ap length same, due .room))) in
+      (wrote (encoded-is-good (is .header) (is .entries) file (is .encoded)) (omega (arith, ap length same, due .1))) in
       (ap certifiedNumber (written .says), written)
 
 -- ---- `bmc_certificate`: the answer of `certify`, packed

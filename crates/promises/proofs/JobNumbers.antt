@@ -1,11 +1,11 @@
 -- WHICH NUMBER A JOB FILE GETS (document 01, "Turned away"): FILE exactly where the bytes are the encoding of no header and entries that keep the
 -- rules, of an entry taken out where they begin with the encoding of no entry that keeps them, of a rehearsal also where the answered file would
 -- be too long; then ROOM exactly where what is to be written is longer than the lent memory; else 0.
-use mathlib.Core.Path.{_≡_, refl, sym, ap, subst, _∙_}
+use mathlib.Core.Path.{_≡_, refl, sym, ap, ap₂, subst, _∙_}
 use mathlib.Core.Bool.{Bool, true, false, cond, false≢true}
 use mathlib.Core.Logic.{_⊎_, inl, inr, ⊎-elim}
 use mathlib.Core.List.{List, [], _∷_, _++_}
-use Prim.Native.Nat.{ℕ, _%_, _≤_, _<_}
+use Prim.Native.Nat.{ℕ, _+_, _%_, _≤_, _<_}
 use native.Mathlib.Omega.{arith}
 use lib.Dec.{leb}
 use lib.ListN.{length, drop}
@@ -22,8 +22,9 @@ use Rattle.jobs.specs.declared.Opened.the-variants as opened
 use Rattle.jobs.specs.declared.Next.the-variants as next
 use Rattle.jobs.specs.Check.{headerIn, sizeIn, entryIn, entriesIn, goodEntry, goodFile, placedIn, openedOf, openedNumber, nextIn, nextOf, nextNumber}
 use Rattle.jobs.specs.Encoded.{Fits, Encodes}
+use Rattle.jobs.proofs.Sizes.{head-length}
 use Rattle.jobs.proofs.OneEntry.{entry-back, entry-good, good-is-written, drop-bytes}
-use Rattle.jobs.proofs.GoodFile.{encoded-is-good, good-is-encoded}
+use Rattle.jobs.proofs.GoodFile.{header-read, entries-read, encoded-is-good, good-is-encoded}
 use Rattle.letters.specs.declared.Standing.{Standing}
 use Rattle.printing.specs.Text.{certificateText}
 use Rattle.printing.specs.Print.{mostEntries, printedOf, printedNumber}
@@ -32,15 +33,18 @@ use Rattle.certificate.specs.Certificate.{certificateOf, certifiedOf, certified
 use Rattle.certificate.specs.declared.Certified.{Certified}
 use Rattle.certificate.specs.declared.Certified.the-variants as certified
 use Rattle.certificate.proofs.Answered.{Answered, no-job, no-room, all, answered}
+use Rattle.registers.specs.Memory.{powerOnMemory}
 use Rattle.listening.specs.Listening.{heardHere, listenedTo, nothingHeard, listenOf}
-use Rattle.rehearsal.specs.Rehearsal.{rehearsalOf, rehearsedOf, rehearsedNumber}
+use Rattle.rehearsal.specs.Rehearsal.{answeredSize, rehearsalOf, rehearsedOf, rehearsedNumber}
 use Rattle.rehearsal.specs.declared.Rehearsed.the-variants as rehearsed
+use Rattle.rehearsal.proofs.Counting.{rehearsed-size}
 use Rattle.bmc.specs.Exports.{packedCertified, CertificateBytesDone}
 use Rattle.promises.specs.ByNumber.{row, NumberDue}
 use Rattle.promises.specs.Rows.{readRows}
-use Rattle.promises.specs.CallRows.{NoJobFile, NoEntry, openRows, nextRows, printRows, certifyRows, rehearseRows}
+use Rattle.promises.specs.CallRows.{NoJobFile, NoEntry, openRows, nextRows, printRows, certifyRows, AnsweredAbove, rehearseRows}
 use Rattle.promises.proofs.Rows.{by-number}
 use Rattle.promises.proofs.CallsByNumber.{enough-room, short-of-room}
+use Rattle.promises.proofs.Certificate.{text-for, only-text}
 
 -- a test of the bytes, in place of what it says of them
 pub bad-is-no-job : (file : List ℕ) → goodFile file ≡ false → NoJobFile file
@@ -129,8 +133,11 @@ certified-by-number file before small = by-answer (certifiedOf file before) (ans
   where
     by-answer : (c : Certified) → Answered file before c → NumberDue (certifyRows file (length before)) (certifiedNumber c)
     by-answer _ (no-job bad) = inl (bad-is-no-job file bad, refl)
-    by-answer _ (no-room good over) = inr (good-is-a-job file small good, inl (over, refl))
-    by-answer _ (all good room) = inr (good-is-a-job file small good, inr (λ over. omega (arith, room, over), refl))
+    by-answer _ (no-room good over) =
+        let text = text-for _ _ file (good-is-encoded file small good) in
+        inr (good-is-a-job file small good, inl ((certificateOf file, text, omega (arith, over)), refl))
+    by-answer _ (all good room) =
+        inr (good-is-a-job file small good, inr (λ over. omega (arith, room, ap length (only-text file (over .0) (over .1)), over .2), refl))
 
 -- of C's call in the lowest eight bits
 pub packed-number : (file before after : List ℕ) (r : ℕ) → CertificateBytesDone file before after r → r % 256 ≡ certifiedNumber (certifiedOf file before)
@@ -149,6 +156,24 @@ certificate-bytes-by-number file before after r small done =
 
 -- ---- the rehearsal
 
+answered-bytes : (h : Header) (es : List Entry) (file : List ℕ) → Encodes h es file → length (rehearsalOf file) ≡ headSize + answeredSize h es
+unfolding rehearsalOf
+answered-bytes h es file encoded =
+    let g = headerIn file in
+    let read = entriesIn (drop headSize file) in
+    let same : answeredSize g read ≡ answeredSize h es = ap₂ answeredSize (header-read h es file encoded) (entries-read h es file encoded) in
+    omega (arith, rehearsed-size g (powerOnMemory (g .n)) read, same, head-length g)
+
+-- the length of the answered file, in place of what it says of the encoded entries
+above : (file : List ℕ) (most : ℕ) → Bytes file → goodFile file ≡ true → most < length (rehearsalOf file) → AnsweredAbove file most
+above file most small good over =
+    let encoded = good-is-encoded file small good in
+    let bytes = answered-bytes (headerIn file) (entriesIn (drop headSize file)) file encoded in
+    (headerIn file, entriesIn (drop headSize file), encoded, omega (arith, bytes, over))
+
+not-above : (file : List ℕ) (most : ℕ) → length (rehearsalOf file) ≤ most → AnsweredAbove file most → ⊥
+not-above file most fits over = omega (arith, fits, answered-bytes (over .0) (over .1) file (over .2), over .3)
+
 pub rehearsed-by-number : (file before : List ℕ) → Bytes file
     → NumberDue (rehearseRows file (length before)) (rehearsedNumber (rehearsedOf file before))
 unfolding rehearsedOf
@@ -161,12 +186,12 @@ rehearsed-by-number file before small = by-tests (goodFile file) refl (leb bytes
         → NumberDue (rehearseRows file (length before))
         (rehearsedNumber (cond good (cond short (cond fits (rehearsed.Bytes bytes) rehearsed.Room) rehearsed.File) rehearsed.File))
     by-tests false bad short e fits f = inl (inl (bad-is-no-job file bad), refl)
-    by-tests true good false long fits f = inl (inr (omega (arith, leb-false bytes 65536 long)), refl)
+    by-tests true good false long fits f = inl (inr (above file _ small good (omega (arith, leb-false bytes 65536 long))), refl)
     by-tests true good true short fits f =
-        inr (⊎-elim (good-is-a-job file small good) (λ (long : 65536 < bytes). omega (arith, leb-true bytes 65536 short, long)), by-room fits f)
+        inr (⊎-elim (good-is-a-job file small good) (not-above file _ (omega (arith, leb-true bytes 65536 short))), by-room fits f)
       where
         by-room : (fits : Bool) → leb bytes (length before) ≡ fits
-            → ((length before < bytes) × (rehearsedNumber (cond fits (rehearsed.Bytes bytes) rehearsed.Room) ≡ 2))
-            ⊎ ((length before < bytes → ⊥) × (rehearsedNumber (cond fits (rehearsed.Bytes bytes) rehearsed.Room) ≡ 0))
-        by-room true room = inr ((λ (over : length before < bytes). omega (arith, leb-true bytes (length before) room, over)), refl)
-        by-room false over = inl (omega (arith, leb-false bytes (length before) over), refl)
+            → (AnsweredAbove file (length before) × (rehearsedNumber (cond fits (rehearsed.Bytes bytes) rehearsed.Room) ≡ 2))
+            ⊎ ((AnsweredAbove file (length before) → ⊥) × (rehearsedNumber (cond fits (rehearsed.Bytes bytes) rehearsed.Room) ≡ 0))
+        by-room true room = inr (not-above file (length before) (omega (arith, leb-true bytes (length before) room)), refl)
+        by-room false over = inl (above file (length before) small good (omega (arith, leb-false bytes (length before) over)), refl)

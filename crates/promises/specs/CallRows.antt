@@ -3,20 +3,20 @@ use mathlib.Core.Path.{_≡_}
 use mathlib.Core.Bool.{true}
 use mathlib.Core.Logic.{_⊎_}
 use mathlib.Core.List.{List, [], _∷_, _++_}
-use Prim.Native.Nat.{ℕ, _*_, _/_, _%_, _≤_, _<_}
+use Prim.Native.Nat.{ℕ, _+_, _*_, _/_, _%_, _≤_, _<_}
 use lib.ListN.{length}
 use Rattle.questions.specs.declared.question.Question.{Question}
 use Rattle.commands.specs.Command.{commandLine}
 use Rattle.cells.specs.Cell.{enabled}
 use Rattle.jobs.specs.declared.Header.{Header}
-use Rattle.jobs.specs.Format.{Entry, entryBytes}
+use Rattle.jobs.specs.Format.{Entry, headSize, entryBytes}
 use Rattle.jobs.specs.Rules.{keepsRules}
 use Rattle.jobs.specs.Encoded.{Fits, Encodes}
 use Rattle.printing.specs.Print.{mostEntries}
-use Rattle.certificate.specs.Certificate.{certificateOf}
-use Rattle.rehearsal.specs.Rehearsal.{rehearsalOf}
+use Rattle.rehearsal.specs.Rehearsal.{answeredSize}
 use Rattle.promises.specs.ByNumber.{Row, row}
 use Rattle.promises.specs.Rows.{NotGood}
+use Rattle.promises.specs.Certificate.{TextFor}
 
 -- 2 ROOM: the lent output is shorter than what the call writes
 abbrev pub room : (lent written : ℕ) → Row
@@ -71,12 +71,16 @@ nextRows h rest = row 14 ((1 ≤ length rest) × NoEntry h rest) ∷ []
 abbrev pub printRows : (entries lent written : ℕ) → List Row
 printRows entries lent written = row 14 (mostEntries < entries) ∷ room lent written ∷ []
 
+-- a file certified: ROOM where its text is longer than what is lent
 abbrev pub certifyRows : (file : List ℕ) (lent : ℕ) → List Row
-certifyRows file lent = row 14 (NoJobFile file) ∷ room lent (length (certificateOf file)) ∷ []
+certifyRows file lent = row 14 (NoJobFile file) ∷ row 2 ((text : List ℕ) × TextFor file text × (lent < length text)) ∷ []
 
--- FILE also where the file would be too long with its answers
+-- a file rehearsed: with its answers, which are as long as the commands, it has more bytes than so many; FILE also where it would be too long
+abbrev pub AnsweredAbove : (file : List ℕ) (most : ℕ) → Type 0
+AnsweredAbove file most = (h : Header) × (es : List Entry) × Encodes h es file × (most < headSize + answeredSize h es)
+
 abbrev pub rehearseRows : (file : List ℕ) (lent : ℕ) → List Row
-rehearseRows file lent = row 14 (NoJobFile file ⊎ (65536 < length (rehearsalOf file))) ∷ room lent (length (rehearsalOf file)) ∷ []
+rehearseRows file lent = row 14 (NoJobFile file ⊎ AnsweredAbove file 65536) ∷ row 2 (AnsweredAbove file lent) ∷ []
 
 -- 12 CHANNEL: cell number not 1..12; 13 LOW BITS: either low bit of a measured cell's register is 1
 abbrev pub cellRows : (mask c register : ℕ) → List Row

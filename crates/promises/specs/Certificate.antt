@@ -79,13 +79,16 @@ pub record CertificateText (h : Header) (es : List Entry) (text : List ℕ) : Ty
   -- and their lines, and nothing else
   pub whole : text ≡ linesOf (h .n) heard devices
 
--- when a certificate is due: the file is the encoding of a header and entries that keep the rules, this is their text, and it has room
-pub record CertificateDue (file text before : List ℕ) : Type 0 where
+-- the certificate's text for a file: the file is the encoding of a header and entries that keep the rules, and this is their text
+pub record TextFor (file text : List ℕ) : Type 0 where
   pub header : Header
   pub entries : List Entry
   pub encoded : Encodes header entries file
   pub printed : CertificateText header entries text
-  pub room : length text ≤ length before
+
+-- when a certificate is due: this is the file's text, and it has room
+abbrev pub CertificateDue : (file text before : List ℕ) → Type 0
+CertificateDue file text before = TextFor file text × (length text ≤ length before)
 
 -- and what the call then answers and leaves: the text at the front of the lent memory, the rest as it was
 pub record Wrote (text before after : List ℕ) (r : Certified) : Type 0 where

@@ -1,8 +1,8 @@
 pub mod ByNumber
 pub mod Rows
+pub mod Certificate
 pub mod CallRows
 pub mod Demand1
-pub mod Certificate
 pub mod Demand2
 pub mod Demand3
 pub mod WhereItEnds

@@ -14,20 +14,15 @@ use Rattle.jobs.proofs.Entries.{first-good, good-here, entries-here, no-more-en
 use Rattle.jobs.proofs.Placed.{entry-within}
 use Rattle.rehearsal.specs.declared.Places.{Places}
 use Rattle.registers.specs.Memory.{powerOnMemory}
-use Rattle.rehearsal.specs.Rehearsal.{answerWords, sent, withWords, rehearsed, rehearsalOf}
+use Rattle.rehearsal.specs.Rehearsal.{answerWords, answeredSize, sent, withWords, rehearsed, rehearsalOf}
 use Rattle.rehearsal.specs.Answering.{entryWith}
 use Rattle.rehearsal.proofs.Sending.{few-words, answer-length}
-
--- how many bytes the entries have with their answers, whatever the registers hold
-unfoldable pub sizes : Header → List Entry → ℕ
-sizes h [] = 0
-sizes h (e ∷ es) = fieldSize + 2 * answerWords (asked h e) + sizes h es
 
 pub answered-size : (h : Header) (memory : List ℕ) (e : Entry) → length (entryBytes (withWords e (sent (h .n) memory (asked h e) .line))) ≡ fieldSize + 2 * answerWords (asked h e)
 answered-size h memory e = omega (arith, fields-length (e .kind) (e .reg) (e .value) (e .device) (e .seed) 0, length-bytes (sent (h .n) memory (asked h e) .line), answer-length (asked h e) (h .n) memory)
 
-pub rehearsed-size : (h : Header) (memory : List ℕ) (es : List Entry) → length (entriesBytes (rehearsed h memory es)) ≡ sizes h es
-unfolding rehearsed entriesBytes sizes
+pub rehearsed-size : (h : Header) (memory : List ℕ) (es : List Entry) → length (entriesBytes (rehearsed h memory es)) ≡ answeredSize h es
+unfolding rehearsed entriesBytes answeredSize
 rehearsed-size h memory [] = refl
 rehearsed-size h memory (e ∷ es) =
     let s = sent (h .n) memory (asked h e) in
@@ -38,12 +33,12 @@ pub record Counting (h : Header) (file : List ℕ) (p : Places) : Type 0 where
   pub within : p .at ≤ length file
   pub good : goodEntries h (drop (p .at) file) ≡ true
   pub slow : p .to ≤ 40 * p .at
-  pub sum : p .to + sizes h (entriesIn (drop (p .at) file)) ≡ headSize + sizes h (entriesIn (drop headSize file))
+  pub sum : p .to + answeredSize h (entriesIn (drop (p .at) file)) ≡ headSize + answeredSize h (entriesIn (drop headSize file))
 
-sizes-here : (h : Header) (file : List ℕ) (at : ℕ) → at < length file
-    → sizes h (entriesIn (drop at file)) ≡ fieldSize + 2 * answerWords (askedIn h (drop at file)) + sizes h (entriesIn (drop (at + sizeIn (drop at file)) file))
-unfolding sizes
-sizes-here h file at here = ap (sizes h) (entries-here file at here)
+size-here : (h : Header) (file : List ℕ) (at : ℕ) → at < length file
+    → answeredSize h (entriesIn (drop at file)) ≡ fieldSize + 2 * answerWords (askedIn h (drop at file)) + answeredSize h (entriesIn (drop (at + sizeIn (drop at file)) file))
+unfolding answeredSize
+size-here h file at here = ap (answeredSize h) (entries-here file at here)
 
 pub counting-first : (h : Header) (file : List ℕ) → goodFile file ≡ true → h ≡ headerIn file → (at : ℕ) → at ≡ headSize
     → Counting h file (record { at = at; to = at })
@@ -60,12 +55,12 @@ module _ (h : Header) (file : List ℕ) (p : Places) (here : p .at < length file
     within = entry-within h file (p .at) (first-good h file (p .at) here (counting .good));
     good = sym (good-here h file (p .at) here (first-good h file (p .at) here (counting .good))) ∙ counting .good;
     slow = omega (arith, counting .slow, few-words (askedIn h (drop (p .at) file)), field-bounds .0);
-    sum = omega (arith, counting .sum, sizes-here h file (p .at) here);
+    sum = omega (arith, counting .sum, size-here h file (p .at) here);
   }
 
-no-sizes : (h : Header) → sizes h [] ≡ 0
-unfolding sizes
-no-sizes h = refl
+no-size : (h : Header) → answeredSize h [] ≡ 0
+unfolding answeredSize
+no-size h = refl
 
 pub counted : (h : Header) (file : List ℕ) (p : Places) → h ≡ headerIn file → length file ≤ p .at → Counting h file p → p .to ≡ length (rehearsalOf file)
 unfolding rehearsalOf
@@ -75,9 +70,9 @@ counted h file p is over counting =
     omega (
       arith,
       counting .sum,
-      ap (sizes h) (no-more-entries file (p .at) over),
-      no-sizes h,
+      ap (answeredSize h) (no-more-entries file (p .at) over),
+      no-size h,
       head-length h′,
-      ap (λ (x : Header). sizes x es) is,
+      ap (λ (x : Header). answeredSize x es) is,
       rehearsed-size h′ (powerOnMemory (h′ .n)) es,
     )

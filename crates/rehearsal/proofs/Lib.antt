@@ -1,5 +1,5 @@
 pub mod Sending
-mod Counting
+pub mod Counting
 mod Answering
 mod FromPowerOn
 pub mod Rehearsing

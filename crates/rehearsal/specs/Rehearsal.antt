@@ -3,7 +3,7 @@
 use mathlib.Core.Path.{_≡_}
 use mathlib.Core.Bool.{cond}
 use mathlib.Core.List.{List, [], _∷_}
-use Prim.Native.Nat.{ℕ}
+use Prim.Native.Nat.{ℕ, _+_, _*_}
 use lib.Dec.{leb}
 use lib.ListN.{length, drop}
 use Rattle.lines.specs.Write.{atFront, leftBy}
@@ -14,7 +14,7 @@ use Rattle.commands.specs.Command.{commandLine}
 use Rattle.registers.specs.Memory.{powerOnMemory}
 use Rattle.twin.specs.Step.{Chain, chainWith, hops}
 use Rattle.jobs.specs.declared.Header.{Header}
-use Rattle.jobs.specs.Format.{Entry, headSize, asked, fileBytes}
+use Rattle.jobs.specs.Format.{Entry, headSize, fieldSize, asked, fileBytes}
 use Rattle.jobs.specs.Check.{goodFile, headerIn, entriesIn}
 use Rattle.rehearsal.specs.declared.Rehearsed.{Rehearsed}
 use Rattle.rehearsal.specs.declared.Rehearsed.the-variants.{Bytes, File, Room}
@@ -59,3 +59,8 @@ pub record RehearsalDone (file before after : List ℕ) (r : Rehearsed) : Type 0
 -- how many words come back: as many as the command has
 unfoldable pub answerWords : Question → ℕ
 answerWords q = cond (goodQuestion q) (shapeOf q .words) 0
+
+-- how many bytes the entries take with their answers: each its fields, and two for each word, whatever the registers hold
+unfoldable pub answeredSize : Header → List Entry → ℕ
+answeredSize h [] = 0
+answeredSize h (e ∷ es) = fieldSize + 2 * answerWords (asked h e) + answeredSize h es
