@@ -124,9 +124,10 @@ demand-1 = record {
       one (record { says = refl; leaves = refl }) (λ after r done. (done .says, done .leaves)) (put-due bytes out) (refused-put bytes out);
   read-cell = λ range mask c register.
       one refl (λ after r done. (done, nothing after)) (cell-due range mask c register) (λ after r done away. nothing after);
-  read-cells = λ range mask registers. cells-number range mask 1 registers;
-  each-cell = λ range mask registers k below.
-      one refl (λ after r done. (done, nothing after)) (each-due range mask registers k below) (λ after r done away. nothing after);
+  read-cells = λ range mask registers cells done. ap length done ∙ cells-number range mask 1 registers;
+  each-cell = λ range mask registers cells done k below.
+      subst (λ (all : List Cell). NumberDue (cellRows mask (suc k) (getD registers k (record { 0 = 0 }) .0)) (cellNumber (getD all k NotMeasured)))
+      (sym done) (each-due range mask registers k below);
   power-on = λ n memory.
       one (record { says = refl; leaves = refl }) (λ after r done. (done .says, done .leaves)) (powered-due n memory) (refused-power-on n memory);
   step = λ n device memory line out.

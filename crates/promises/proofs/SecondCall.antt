@@ -1,6 +1,6 @@
 -- The second call is as promised: the laws of `parts` and `acceptance`, said of the call that `read` answers beside it.
-use mathlib.Core.Path.{_≡_, refl, sym, ap, _∙_}
-use mathlib.Core.Bool.{Bool, cond}
+use mathlib.Core.Path.{_≡_, refl, sym, ap, subst, _∙_}
+use mathlib.Core.Bool.{Bool, true, cond}
 use mathlib.Core.Logic.{⊎-elim}
 use mathlib.Core.List.{List, []}
 use Prim.Native.Nat.{ℕ, _+_, _*_, _≤_, _<_}
@@ -10,6 +10,7 @@ use lib.Dec.{eqb}
 use lib.ListN.{length}
 use borrow.Author.Tests.{eq-eqb, ne-eqb}
 use Rattle.packing.specs.Words.{lineOn}
+use Rattle.questions.specs.Question.{covers}
 use Rattle.questions.specs.Shape.{shapeOf}
 use Rattle.questions.specs.declared.question.Question.{Question}
 use Rattle.readings.specs.Reading.{valuesTaken}
@@ -20,24 +21,34 @@ use Rattle.judging.proofs.Bounds.{enough-room}
 use Rattle.reader.specs.Read.{ReadDone}
 use Rattle.parts.specs.Part.{valuesFound, startOf, partOf}
 use Rattle.parts.proofs.Part.{no-part, not-put-to, starts, part-there, inside}
+use Rattle.acceptance.specs.Part.{partValue}
 use Rattle.acceptance.proofs.SecondCall.{part-has-four, second-call-agrees}
 use Rattle.c_parts.specs.PartBytes.{packedStart, partIn}
-use Rattle.promises.specs.SecondCall.{SecondCall}
+use Rattle.promises.specs.CSide.{askedBy, upperHalf}
+use Rattle.promises.specs.SecondCall.{StartsAt, SecondCall}
 
 module _ (q : Question) (line before after : List ℕ) (r : Reading) (done : ReadDone q line before after r) where
   -- with room enough, the second call finds as many values as `read` took
   same-found : shapeOf q .values ≤ length before → valuesFound q line ≡ valuesTaken r
   same-found fits = sym (ap valuesTaken (done .says ∙ enough-room q line (length before) fits))
 
+  same-taken : 1 ≤ valuesTaken r → valuesFound q line ≡ valuesTaken r
+  same-taken some = same-found (some-values q line (length before) (omega (arith, ap valuesTaken (done .says))) .taken .enough)
+
   found : 1 ≤ valuesTaken r → 0 < valuesFound q line
-  found some =
-      let c = some-values q line (length before) (omega (arith, ap valuesTaken (done .says))) in
-      omega (arith, same-found (c .taken .enough))
+  found some = omega (arith, same-taken some)
 
 -- where there is a place the part has four words, so that it is not empty
 not-empty : (q : Question) (line : List ℕ) (a : ℕ) → 1 ≤ startOf q line a → partOf q line a ≡ [] → ⊥
 not-empty q line a some none =
     let there = starts q line a some in omega (arith, part-has-four q line a (there .0) (there .1), ap length none)
+
+-- a part starts where the number of values that `read` took says
+place : (q : Question) (line before after : List ℕ) (r : Reading) → ReadDone q line before after r → 1 ≤ valuesTaken r
+    → (a : ℕ) → covers q a ≡ true → StartsAt q a (valuesTaken r) (startOf q line a)
+place q line before after r done some a covered =
+    let there = inside q line a (found q line before after r done some) covered in
+    omega (arith, there .start, there .order, same-taken q line before after r done some)
 
 packed-some : (start : ℕ) → 1 ≤ start → packedStart start ≡ 4 + 65536 * start
 packed-some start some = ap (λ (t : Bool). cond t 0 (4 + 65536 * start)) (ne-eqb start 0 (λ none. omega arith))
@@ -45,16 +56,27 @@ packed-some start some = ap (λ (t : Bool). cond t 0 (4 + 65536 * start)) (ne-eq
 pub second-call : SecondCall
 unfolding partIn
 second-call = record {
-  handed-back = λ q line before after r done some a covered.
-      let there = found q line before after r done some in record {
-        there = sym (part-there q line a there covered);
-        four = part-has-four q line a there covered;
-        carries = sym (second-call-agrees q line before after r done some a covered);
-      };
-  not-covered = λ q line a out. sym (not-put-to q line a out);
-  nothing-taken = λ q line before after r done fits none a.
-      sym (no-part q line a (same-found q line before after r done fits ∙ none));
-  in-bytes = λ c named line some. let packed = packed-some _ some in (omega (arith, packed), omega (arith, packed));
-  none-in-bytes = λ c named line none.
-      ⊎-elim (λ zero. ap packedStart zero) (λ some. absurd (not-empty _ (lineOn line) named some none)) (eq-zero-or-pos _);
+  handed-back = λ q line before after r done some a covered part is.
+      let there = found q line before after r done some in (
+        startOf q line a,
+        place q line before after r done some a covered,
+        record {
+          there = is ∙ sym (part-there q line a there covered);
+          four = ap length is ∙ part-has-four q line a there covered;
+          carries = ap partValue is ∙ sym (second-call-agrees q line before after r done some a covered);
+        },
+      );
+  not-covered = λ q line a out part is. is ∙ sym (not-put-to q line a out);
+  nothing-taken = λ q line before after r done fits none a part is.
+      is ∙ sym (no-part q line a (same-found q line before after r done fits ∙ none));
+  in-bytes = λ c line before after reading done some a covered r is.
+      let q = askedBy c in
+      let words = lineOn line in
+      let there = inside q words a (found q words before after reading done some) covered in
+      let packed : r ≡ 4 + 65536 * startOf q words a = is ∙ packed-some (startOf q words a) (omega (arith, there .start)) in
+      let upper : startOf q words a ≡ upperHalf r = omega (arith, packed) in
+      (omega (arith, packed), subst (StartsAt q a (valuesTaken reading)) upper (place q words before after reading done some a covered));
+  none-in-bytes = λ c line part a r is says none.
+      says
+      ∙ ⊎-elim (λ zero. ap packedStart zero) (λ some. absurd (not-empty _ (lineOn line) a some (sym is ∙ none))) (eq-zero-or-pos _);
 }

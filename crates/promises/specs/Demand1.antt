@@ -70,9 +70,13 @@ pub record Answers {Answer Memory : Type 0} (rows : List Row) (number : Answer �
   -- and turned away the call has written nothing
   pub refused : (after : Memory) (r : Answer) → Contract after r → TurnedAway (number r) → after ≡ before
 
--- the same of a call that is lent nothing to write: its contract is that it answers this, so that what is claimed here is its number
-abbrev pub Replies : {Answer : Type 0} (rows : List Row) (number : Answer → ℕ) (answer : Answer) → Type 0
-Replies rows number answer = Answers {Memory = Unit} rows number tt (λ after r. r ≡ answer)
+-- the contract of a call that is lent nothing to write: it answers this
+abbrev pub Returns : {Answer : Type 0} (answer r : Answer) → Type 0
+Returns answer r = r ≡ answer
+
+-- the same of such a call: what is claimed here is its number
+abbrev pub Replies : {Answer : Type 0} (rows : List Row) (number : Answer → ℕ) (Contract : Answer → Type 0) → Type 0
+Replies rows number Contract = Answers {Memory = Unit} rows number tt (λ after. Contract)
 
 -- the C side's answers carry their number in the lowest eight bits
 abbrev pub packedNumber : ℕ → ℕ
@@ -98,14 +102,16 @@ pub record OwnCell (mask bipolar : ℕ) (registers : List ℕ) (microvolts micro
 pub record Demand1 : Type 0 where
   -- the reader and the second call (what that hands back: SecondCall.antt); the command writer, and the writing of a line
   pub read : (q : Question) (line out : List ℕ) → Answers (readRows q line (length out)) numberOf out (ReadDone q line out)
-  pub register-part : (q : Question) (line : List ℕ) (device : ℕ) → Replies [] noNumber (partOf q line device)
+  pub register-part : (q : Question) (line : List ℕ) (device : ℕ) → Replies [] noNumber (Returns (partOf q line device))
   pub write-command : (q : Question) (out : List ℕ) → Answers (commandRows q (length out)) issuedNumber out (CommandPut q out)
   pub put-line : (bytes out : List ℕ) → Answers (room (length out) (length (lineOf bytes)) ∷ []) putNumber out (LinePut bytes out)
   -- a cell; twelve cells, each by its own register
-  pub read-cell : (range : Range) (mask c register : ℕ) → Replies (cellRows mask c register) cellNumber (cellOf range mask c register)
-  pub read-cells : (range : Range) (mask : ℕ) (registers : List Register) → length (cellsOf range mask registers) ≡ length registers
-  pub each-cell : (range : Range) (mask : ℕ) (registers : List Register) (k : ℕ) → k < length registers
-      → Replies (cellRows mask (suc k) (getD registers k (record { 0 = 0 }) .0)) cellNumber (getD (cellsOf range mask registers) k NotMeasured)
+  pub read-cell : (range : Range) (mask c register : ℕ) → Replies (cellRows mask c register) cellNumber (Returns (cellOf range mask c register))
+  pub read-cells : (range : Range) (mask : ℕ) (registers : List Register) (cells : List Cell) → Returns (cellsOf range mask registers) cells
+      → length cells ≡ length registers
+  pub each-cell : (range : Range) (mask : ℕ) (registers : List Register) (cells : List Cell) → Returns (cellsOf range mask registers) cells
+      → (k : ℕ) → k < length registers
+      → NumberDue (cellRows mask (suc k) (getD registers k (record { 0 = 0 }) .0)) (cellNumber (getD cells k NotMeasured))
   -- the twin: a step, a span of devices and a chain are lent registers and an output
   pub power-on : (n : ℕ) (memory : List ℕ) → Answers (powerOnRows 256 n (length memory)) poweredNumber memory (PoweredOn n memory)
   pub step : (n device : ℕ) (memory line out : List ℕ)
@@ -118,13 +124,13 @@ pub record Demand1 : Type 0 where
       → Answers {Memory = List ℕ × List ℕ} (chainRows n (length memory) (length out) (length line)) steppedNumber (memory, out)
       (λ after. ChainDone n memory (after .0) line out (after .1))
   -- a job file opened, its entries taken out, and one heard; a certificate printed
-  pub open-file : (file : List ℕ) → Bytes file → Replies (openRows file) openedNumber (openedOf file)
-  pub next-entry : (h : Header) (file : List ℕ) (c : Cursor) → Bytes file → Replies (nextRows h (drop (c .at) file)) nextNumber (nextOf h file c)
+  pub open-file : (file : List ℕ) → Bytes file → Replies (openRows file) openedNumber (Returns (openedOf file))
+  pub next-entry : (h : Header) (file : List ℕ) (c : Cursor) → Bytes file → Replies (nextRows h (drop (c .at) file)) nextNumber (Returns (nextOf h file c))
   -- (heard by the reader's own rows, with room for the values of 32 devices, where the bytes begin with an entry that keeps the rules; else FILE)
   pub listen : (h : Header) (e : Entry) (later : List ℕ) (s : Standing) → Fits e → keepsRules h e ≡ true
-      → Replies (readRows (asked h e) (e .words) 32) (λ (r : Listened). r .number) (listenOf h (entryBytes e ++ later) s)
+      → Replies (readRows (asked h e) (e .words) 32) (λ (r : Listened). r .number) (Returns (listenOf h (entryBytes e ++ later) s))
   pub listen-file : (h : Header) (front : List ℕ) (s : Standing) → Bytes front → NoEntry h front
-      → Replies (row 14 (NoEntry h front) ∷ []) (λ (r : Listened). r .number) (listenOf h front s)
+      → Replies (row 14 (NoEntry h front) ∷ []) (λ (r : Listened). r .number) (Returns (listenOf h front s))
   pub print : (n : ℕ) (numbers : List ℕ) (s : Standing) (text : List ℕ)
       → Answers (printRows (length numbers) (length text) (length (certificateText n numbers s))) printedNumber text (PrintDone n numbers s text)
   -- the certificate and the rehearsal, of every file of bytes
@@ -132,8 +138,8 @@ pub record Demand1 : Type 0 where
   pub rehearse : (file out : List ℕ) → Bytes file → Answers (rehearseRows file (length out)) rehearsedNumber out (RehearsalDone file out)
   -- the C side's calls, over bytes: an odd number of them is as no line at all, and so LENGTH; two are room for a word
   pub read-bytes : (q : Question) (line out : List ℕ) → Answers (readRows q (lineOn line) (length out / 2)) packedNumber out (ReadBytesDone q line out)
-  pub pec : (bytes : List ℕ) → Replies [] noNumber (pecOf bytes)
-  pub part-bytes : (q : Question) (device : ℕ) (line : List ℕ) → Replies [] noNumber (partIn q device line)
+  pub pec : (bytes : List ℕ) → Replies [] noNumber (Returns (pecOf bytes))
+  pub part-bytes : (q : Question) (device : ℕ) (line : List ℕ) → Replies [] noNumber (Returns (partIn q device line))
   pub command-bytes : (q : Question) (out : List ℕ) → Answers (commandRows q (length out / 2)) packedNumber out (CommandBytesDone q out)
   -- a cell's voltage goes into two lent numbers, twelve cells' into two lists, with a third for their answers
   pub cell-into : (cell enabled register bipolar : ℕ) (microvolts : ℤ) (volts : Float)
