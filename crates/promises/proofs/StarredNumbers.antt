@@ -10,4 +10,4 @@ use Rattle.promises.specs.StarredNumbers.{StarredNumbers}
 
 pub starred-numbers : StarredNumbers
 unfolding commandBytes answerBytes sealed onWire asBytes fillPairs shapeOf pecOf run byteStep times bitStep microvoltsOf
-starred-numbers = refl
+starred-numbers = (refl, refl, refl, refl, refl, refl, refl, refl, refl, refl, refl, refl, refl, refl)
