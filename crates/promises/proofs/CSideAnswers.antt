@@ -1,5 +1,5 @@
 -- The C side's answers: `acceptance`'s laws on the words of the bytes. Accepted bytes are of an even number, so they are their words' bytes.
-use mathlib.Core.Path.{_≡_, refl, sym, ap, _∙_}
+use mathlib.Core.Path.{_≡_, refl, sym, ap, subst, _∙_}
 use mathlib.Core.Bool.{Bool, true, false, cond}
 use mathlib.Core.List.{List, []}
 use Prim.Native.Nat.{ℕ, _/_, _%_}
@@ -17,7 +17,6 @@ use Rattle.questions.specs.Bytes.{answerBytes}
 use Rattle.questions.specs.declared.question.Question.{Question}
 use Rattle.questions.proofs.Good.{words-least}
 use Rattle.readings.specs.Reading.{numberOf, valuesTaken}
-use Rattle.readings.specs.Packed.{packedReading}
 use Rattle.judging.specs.Judge.{judgeOf}
 use Rattle.judging.proofs.Accepted.{accepted-takes}
 use Rattle.reader.specs.Read.{valuesOn}
@@ -26,9 +25,10 @@ use Rattle.acceptance.proofs.AcceptedIsAnAnswer.{accepted-is-an-answer}
 use Rattle.acceptance.proofs.AnswerIsAccepted.{answer-is-accepted, accepted-reading}
 use Rattle.c_reader.specs.ReadBytes.{readingOn, ReadBytesDone}
 use Rattle.promises.specs.Demand1.{packedNumber}
-use Rattle.promises.specs.CSide.{Numbers, askedBy}
+use Rattle.promises.specs.CSide.{Numbers, askedBy, PackedAs}
 use Rattle.promises.specs.CSideAnswers.{AnswerBytesDue, WithBytes, CSideAnswers}
 use Rattle.promises.proofs.CSideLine.{number-packed, line-on}
+use Rattle.promises.proofs.CSidePacked.{packed-as}
 
 pub sendable : (c : Numbers) → Sendable (askedBy c)
 sendable c = record { reg = c .byte; value = c .word }
@@ -63,7 +63,7 @@ module _ (q : Question) (line before after : List ℕ) (r : ℕ) (done : ReadByt
           written = whole-words q line room small none ∙ ap asBytes (a .answer .written);
         },
         record {
-          reading = done .says ∙ ap packedReading (a .reading);
+          reading = subst (PackedAs r) (a .reading) (packed-as q line before after r done);
           output = done .leaves ∙ ap (λ (l : List ℕ). atFront (asBytes l) before) (a .handed);
         },
       )
@@ -78,7 +78,7 @@ module _ (q : Question) (line before after : List ℕ) (r : ℕ) (done : ReadByt
       let says : readingOn q line before ≡ readingOf q values = ap (λ (l : List ℕ). judgeOf q l room) on ∙ a .0 in (
         own-number ∙ ap numberOf says ∙ accepted-reading q values (due .fitting),
         record {
-          reading = done .says ∙ ap packedReading says;
+          reading = subst (PackedAs r) says (packed-as q line before after r done);
           output =
               done .leaves ∙ ap (λ (l : List ℕ). atFront (asBytes (valuesOn l (valuesTaken (judgeOf q l room)))) before) on
               ∙ ap (λ (l : List ℕ). atFront (asBytes l) before) (a .1);

@@ -1,5 +1,5 @@
 -- The C side's damage: bits turned over in the bytes are as many bits turned over in the words, so demand 3 on words turns them away.
-use mathlib.Core.Path.{_≡_, refl, sym, ap, ap₂, _∙_}
+use mathlib.Core.Path.{_≡_, refl, sym, ap, ap₂, subst, _∙_}
 use mathlib.Core.List.{List}
 use Prim.Native.Nat.{ℕ, _*_, _/_, _≤_}
 use native.Mathlib.Omega.{arith}
@@ -12,10 +12,8 @@ use Rattle.packing.proofs.Back.{length-bytes, length-words, bytes-back, words-w
 use Rattle.questions.specs.Shape.{shapeOf}
 use Rattle.questions.specs.Bytes.{answerBytes}
 use Rattle.questions.specs.declared.question.Question.{Question}
-use Rattle.questions.proofs.Good.{good-values}
 use Rattle.questions.proofs.ByKind.{of-read}
 use Rattle.readings.specs.Reading.{numberOf, valuesTaken}
-use Rattle.readings.specs.Packed.{packedReading}
 use Rattle.readings.specs.declared.Reading.{Reading}
 use Rattle.readings.specs.declared.Reading.the-variants.{Values}
 use Rattle.judging.specs.Judge.{judgeOf}
@@ -25,7 +23,7 @@ use Rattle.acceptance.specs.Answer.Fitting.{read}
 use Rattle.c_reader.specs.ReadBytes.{readingOn, ReadBytesDone}
 use Rattle.promises.specs.Demand1.{TurnedAway, packedNumber}
 use Rattle.promises.specs.Demand3.{ReadsAll, answerLine, Damage}
-use Rattle.promises.specs.CSide.{askedBy, upperHalf}
+use Rattle.promises.specs.CSide.{askedBy, upperHalf, PackedAs}
 use Rattle.promises.specs.CSideDamage.{answerInBytes, CSideDamage}
 use Rattle.promises.proofs.RefusedBytes.{refused-read-bytes}
 use Rattle.promises.proofs.MasksOnWire.{turned-registers}
@@ -47,9 +45,9 @@ module _ (q : Question) (values : List ℕ) (all : ReadsAll q values) where
       }) in
       let reads : 3 ≤ q .kind = omega (arith, all .asks .kind) in
       let reading : readingOf q values ≡ Values (shapeOf q .values) = of-read (q .kind) _ _ _ reads in
-      let packed : r ≡ packedReading (Values (shapeOf q .values)) = is .1 .reading ∙ ap packedReading reading in (
+      let packed : PackedAs r (Values (shapeOf q .values)) = subst (PackedAs r) reading (is .1 .reading) in (
         is .0,
-        omega (arith, packed, wanted, good-values q (all .asks .good)),
+        packed .upper ∙ omega (arith, wanted),
         is .1 .output ∙ ap (λ (l : List ℕ). atFront (asBytes l) before) (of-read (q .kind) _ _ _ reads),
       )
 

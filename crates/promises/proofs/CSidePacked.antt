@@ -7,68 +7,58 @@ use native.Mathlib.Omega.{arith}
 use lib.ListN.{length}
 use Rattle.packing.specs.Words.{lineOn}
 use Rattle.questions.specs.declared.question.Question.{Question}
-use Rattle.readings.specs.Reading.{numberOf, placeOf, byteOf, countOf, valuesTaken}
+use Rattle.readings.specs.Reading.{numberOf, placeOf, valuesTaken}
 use Rattle.readings.specs.Packed.{packedReading}
+use Rattle.readings.specs.declared.Refusal.the-variants as row
 use Rattle.readings.specs.declared.Reading.{Reading}
 use Rattle.readings.specs.declared.Reading.the-variants.{Counted, Written, Values, Refused}
 use Rattle.judging.specs.Judge.{judgeOf}
 use Rattle.judging.proofs.Accepted.{values-fit}
 use Rattle.judging.proofs.Bounds.{place-most}
 use Rattle.judging.proofs.SmallBytes.{carriedByte, small-byte}
-use Rattle.c_reader.specs.ReadBytes.{readingOn}
-use Rattle.promises.specs.Demand1.{packedNumber}
-use Rattle.promises.specs.CSide.{askedBy, middleByte, upperHalf}
-use Rattle.promises.specs.CSidePacked.{TakenApart, CSidePacked}
-use Rattle.promises.proofs.CSideLine.{row-number}
+use Rattle.c_reader.specs.ReadBytes.{readingOn, ReadBytesDone}
+use Rattle.promises.specs.CSide.{askedBy, Parts, PackedAs}
+use Rattle.promises.specs.CSidePacked.{CSidePacked}
 use Rattle.promises.proofs.Rows.{carried}
 
 -- three parts side by side
-record Parts (a b c r : ℕ) : Type 0 where
-  lowest : packedNumber r ≡ a
-  middle : middleByte r ≡ b
-  upper : upperHalf r ≡ c
-
-parts : (a b c : ℕ) → a < 256 → b < 256 → Parts a b c (a + 256 * b + 65536 * c)
+parts : (a b c : ℕ) → a < 256 → b < 256 → Parts (a + 256 * b + 65536 * c) a b c
 parts a b c ha hb =
     let above : (a + 256 * b + 65536 * c) / 256 ≡ b + 256 * c = omega arith in
     let low : (b + 256 * c) % 256 ≡ b = omega arith in
-    record { lowest = omega arith; middle = ap (λ (x : ℕ). x % 256) above ∙ low; upper = omega arith }
+    record { number = omega arith; middle = ap (λ (x : ℕ). x % 256) above ∙ low; upper = omega arith }
+
+-- the same parts, said otherwise
+as-said : {r number middle upper middle′ upper′ : ℕ} → Parts r number middle upper → middle ≡ middle′ → upper ≡ upper′ → Parts r number middle′ upper′
+as-said is m u = record { number = is .number; middle = is .middle ∙ m; upper = is .upper ∙ u }
 
 -- what must hold of a reading so that nothing of it is lost
 record Whole (reading : Reading) : Type 0 where
   byte : carriedByte reading < 256
   upper : placeOf reading + valuesTaken reading < 65536
 
-module _ (reading : Reading) (whole : Whole reading) (row : numberOf reading < 256) where
-  packed : Parts (numberOf reading) (carriedByte reading) (placeOf reading + valuesTaken reading) (packedReading reading)
-  packed =
-      let uncut : (placeOf reading + valuesTaken reading) % 65536 ≡ placeOf reading + valuesTaken reading = omega (arith, whole .upper) in
-      subst (λ (x : ℕ). Parts (numberOf reading) (carriedByte reading) x (packedReading reading)) uncut
-      (parts (numberOf reading) (carriedByte reading) ((placeOf reading + valuesTaken reading) % 65536) row (whole .byte))
+packed : (reading : Reading) → Whole reading → numberOf reading < 256
+    → Parts (packedReading reading) (numberOf reading) (carriedByte reading) (placeOf reading + valuesTaken reading)
+packed reading whole row =
+    let upper = placeOf reading + valuesTaken reading in
+    let uncut : upper % 65536 ≡ upper = omega (arith, whole .upper) in
+    as-said (parts (numberOf reading) (carriedByte reading) (upper % 65536) row (whole .byte)) refl uncut
 
-  accepted : numberOf reading ≡ 0 → byteOf reading ≡ 0 → placeOf reading ≡ 0 → TakenApart (packedReading reading) reading
-  accepted none no-byte no-place = record {
-    number = packed .lowest;
-    byte = λ away. absurd (omega (arith, packed .lowest));
-    place = λ away. absurd (omega (arith, packed .lowest));
-    count = λ _. packed .middle ∙ omega arith;
-    values = λ _. packed .upper ∙ omega arith;
-  }
-
-  turned-away : 1 ≤ numberOf reading → countOf reading ≡ 0 → valuesTaken reading ≡ 0 → TakenApart (packedReading reading) reading
-  turned-away some no-count no-values = record {
-    number = packed .lowest;
-    byte = λ _. packed .middle ∙ omega arith;
-    place = λ _. packed .upper ∙ omega arith;
-    count = λ none. absurd (omega (arith, packed .lowest));
-    values = λ none. absurd (omega (arith, packed .lowest));
-  }
-
-apart : (reading : Reading) → Whole reading → TakenApart (packedReading reading) reading
-apart (Counted n) whole = accepted (Counted n) whole (omega arith) refl refl refl
-apart Written whole = accepted Written whole (omega arith) refl refl refl
-apart (Values m) whole = accepted (Values m) whole (omega arith) refl refl refl
-apart (Refused why) whole = let row = row-number why in turned-away (Refused why) whole (omega (arith, row .1)) (row .0) refl refl
+apart : (reading : Reading) → Whole reading → PackedAs (packedReading reading) reading
+apart (Counted n) whole = as-said (packed (Counted n) whole (omega arith)) (omega arith) (omega arith)
+apart Written whole = as-said (packed Written whole (omega arith)) (omega arith) (omega arith)
+apart (Values m) whole = as-said (packed (Values m) whole (omega arith)) (omega arith) (omega arith)
+apart (Refused row.Question) whole = as-said (packed (Refused row.Question) whole (omega arith)) (omega arith) (omega arith)
+apart (Refused row.Room) whole = as-said (packed (Refused row.Room) whole (omega arith)) (omega arith) (omega arith)
+apart (Refused row.Length) whole = as-said (packed (Refused row.Length) whole (omega arith)) (omega arith) (omega arith)
+apart (Refused (row.Character i)) whole = as-said (packed (Refused (row.Character i)) whole (omega arith)) (omega arith) (omega arith)
+apart (Refused row.Frame) whole = as-said (packed (Refused row.Frame) whole (omega arith)) (omega arith) (omega arith)
+apart (Refused (row.Manchester i)) whole = as-said (packed (Refused (row.Manchester i)) whole (omega arith)) (omega arith) (omega arith)
+apart (Refused row.Echo) whole = as-said (packed (Refused row.Echo) whole (omega arith)) (omega arith) (omega arith)
+apart (Refused row.Pec) whole = as-said (packed (Refused row.Pec) whole (omega arith)) (omega arith) (omega arith)
+apart (Refused row.Alive) whole = as-said (packed (Refused row.Alive) whole (omega arith)) (omega arith) (omega arith)
+apart (Refused (row.Check b)) whole = as-said (packed (Refused (row.Check b)) whole (omega arith)) (omega arith) (omega arith)
+apart (Refused (row.Count b)) whole = as-said (packed (Refused (row.Count b)) whole (omega arith)) (omega arith) (omega arith)
 
 whole-reading : (q : Question) (line before : List ℕ) → Whole (readingOn q line before)
 unfolding readingOn
@@ -79,11 +69,14 @@ whole-reading q line before =
       upper = omega (arith, place-most q (lineOn line) room, values-fit q (lineOn line) room .0);
     }
 
+pub packed-as : (q : Question) (line before after : List ℕ) (r : ℕ) → ReadBytesDone q line before after r → PackedAs r (readingOn q line before)
+packed-as q line before after r done =
+    let reading = readingOn q line before in
+    subst (λ (x : ℕ). PackedAs x reading) (sym (done .says)) (apart reading (whole-reading q line before))
+
 pub c-side-packed : CSidePacked
 unfolding readingOn
 c-side-packed c line before after r done values left reading room read =
     let q = askedBy c in
     let same : readingOn q line before ≡ reading = sym (read .says ∙ ap (judgeOf q (lineOn line)) room) in
-    let packed : TakenApart r (readingOn q line before) =
-    subst (λ (x : ℕ). TakenApart x (readingOn q line before)) (sym (done .says)) (apart (readingOn q line before) (whole-reading q line before)) in
-    (subst (TakenApart r) same packed, λ why is. carried q (lineOn line) (length before / 2) why (same ∙ is))
+    (subst (PackedAs r) same (packed-as q line before after r done), λ why is. carried q (lineOn line) (length before / 2) why (same ∙ is))

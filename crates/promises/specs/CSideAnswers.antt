@@ -16,10 +16,9 @@ use Rattle.questions.specs.Shape.{shapeOf}
 use Rattle.questions.specs.Bytes.{answerBytes}
 use Rattle.questions.specs.declared.question.Question.{Question}
 use Rattle.acceptance.specs.Answer.{Fitting, readingOf, handedOut}
-use Rattle.readings.specs.Packed.{packedReading}
 use Rattle.c_reader.specs.ReadBytes.{ReadBytesDone}
 use Rattle.promises.specs.Demand1.{packedNumber}
-use Rattle.promises.specs.CSide.{Numbers, askedBy}
+use Rattle.promises.specs.CSide.{Numbers, askedBy, PackedAs}
 
 -- when acceptance is due: the question is good, the values have room, an odd last byte counting for none, and the bytes are those of the line
 -- of the right answer for these values, with check byte 00h
@@ -31,7 +30,7 @@ pub record AnswerBytesDue (q : Question) (line before values : List ℕ) : Type 
 
 -- and with which values: the reading is that answer's, packed, and its values stand at the front of the output, the rest as it was
 pub record WithBytes (q : Question) (values before after : List ℕ) (r : ℕ) : Type 0 where
-  pub reading : r ≡ packedReading (readingOf q values)
+  pub reading : PackedAs r (readingOf q values)
   pub output : after ≡ atFront (asBytes (handedOut q values)) before
 
 pub record CSideAnswers : Type 0 where

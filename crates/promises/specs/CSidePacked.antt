@@ -7,26 +7,17 @@ use mathlib.Core.Path.{_≡_}
 use mathlib.Core.List.{List}
 use Prim.Native.Nat.{ℕ, _/_}
 use lib.ListN.{length}
-use Rattle.readings.specs.Reading.{numberOf, placeOf, byteOf, countOf, valuesTaken}
 use Rattle.packing.specs.Words.{lineOn}
 use Rattle.readings.specs.declared.Refusal.{Refusal}
 use Rattle.readings.specs.declared.Reading.{Reading}
 use Rattle.readings.specs.declared.Reading.the-variants.{Refused}
 use Rattle.reader.specs.Read.{ReadDone}
 use Rattle.c_reader.specs.ReadBytes.{ReadBytesDone}
-use Rattle.promises.specs.Demand1.{TurnedAway, packedNumber}
 use Rattle.promises.specs.Rows.{Carried}
-use Rattle.promises.specs.CSide.{Numbers, askedBy, middleByte, upperHalf}
-
-pub record TakenApart (r : ℕ) (reading : Reading) : Type 0 where
-  pub number : packedNumber r ≡ numberOf reading
-  pub byte : TurnedAway (packedNumber r) → middleByte r ≡ byteOf reading
-  pub place : TurnedAway (packedNumber r) → upperHalf r ≡ placeOf reading
-  pub count : packedNumber r ≡ 0 → middleByte r ≡ countOf reading
-  pub values : packedNumber r ≡ 0 → upperHalf r ≡ valuesTaken reading
+use Rattle.promises.specs.CSide.{Numbers, askedBy, PackedAs}
 
 abbrev pub CSidePacked : Type 0
 CSidePacked =
     (c : Numbers) (line before after : List ℕ) (r : ℕ) → ReadBytesDone (askedBy c) line before after r
     → (values left : List ℕ) (reading : Reading) → length values ≡ length before / 2 → ReadDone (askedBy c) (lineOn line) values left reading
-    → TakenApart r reading × ((why : Refusal) → reading ≡ Refused why → Carried (askedBy c) (lineOn line) why)
+    → PackedAs r reading × ((why : Refusal) → reading ≡ Refused why → Carried (askedBy c) (lineOn line) why)
