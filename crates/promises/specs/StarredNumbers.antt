@@ -9,7 +9,7 @@ use Rattle.questions.specs.Question.{asking, writeAll, readAll}
 use Rattle.questions.specs.Shape.{shapeOf}
 use Rattle.questions.specs.Bytes.{aliveByte, commandBytes, answerBytes}
 use Rattle.questions.specs.declared.question.Question.{Question}
-use Rattle.cells.specs.Voltage.{voltageOf}
+use Rattle.cells.specs.Voltage.{stepsOf, microvoltsOf}
 use Rattle.cells.specs.declared.Range.the-variants.{Unipolar, Bipolar}
 
 -- READALL of 12h, one device, alive off
@@ -32,7 +32,7 @@ StarredNumbers =
     × (answerBytes readAll12 (0x0000 ∷ []) 0x00 ≡ (0x03 ∷ 0x12 ∷ 0x00 ∷ 0x00 ∷ 0x00 ∷ 0xBC ∷ []))
     × (aliveBack 0xFF 1 ≡ (0x00 ∷ []))
     × (aliveBack 0xF0 32 ≡ (0x10 ∷ []))
-    × (voltageOf Unipolar 128 .microvolts ≡ pos 39_063)
-    × (voltageOf Bipolar 8064 .microvolts ≡ negℤ (pos 39_063))
-    × (voltageOf Bipolar 0 .microvolts ≡ negℤ (pos 2_500_000))
-    × (voltageOf Unipolar 16383 .microvolts ≡ pos 4_999_695)
+    × (microvoltsOf (stepsOf Unipolar 128) ≡ pos 39_063)
+    × (microvoltsOf (stepsOf Bipolar 8064) ≡ negℤ (pos 39_063))
+    × (microvoltsOf (stepsOf Bipolar 0) ≡ negℤ (pos 2_500_000))
+    × (microvoltsOf (stepsOf Unipolar 16383) ≡ pos 4_999_695)
