@@ -25,8 +25,9 @@ use Rattle.acceptance.proofs.AcceptedIsAnAnswer.{accepted-is-an-answer}
 use Rattle.acceptance.proofs.AnswerIsAccepted.{answer-is-accepted, accepted-reading}
 use Rattle.c_reader.specs.ReadBytes.{readingOn, ReadBytesDone}
 use Rattle.promises.specs.Demand1.{packedNumber}
+use Rattle.promises.specs.Demand2.{Due}
 use Rattle.promises.specs.CSide.{Numbers, askedBy, PackedAs}
-use Rattle.promises.specs.CSideAnswers.{AnswerBytesDue, WithBytes, CSideAnswers}
+use Rattle.promises.specs.CSideAnswers.{WithBytes, CSideAnswers}
 use Rattle.promises.proofs.CSideLine.{number-packed, line-on}
 use Rattle.promises.proofs.CSidePacked.{packed-as}
 
@@ -48,7 +49,7 @@ module _ (q : Question) (line before after : List ℕ) (r : ℕ) (done : ReadByt
   pub own-number : packedNumber r ≡ numberOf (readingOn q line before)
   own-number = ap packedNumber (done .says) ∙ number-packed (readingOn q line before)
 
-  only-then : Bytes line → packedNumber r ≡ 0 → (values : List ℕ) × AnswerBytesDue q line before values × WithBytes q values before after r
+  only-then : Bytes line → packedNumber r ≡ 0 → (values words : List ℕ) × (line ≡ asBytes words) × Due q words (length before / 2) values × WithBytes q values before after r
   unfolding readingOn
   only-then small accepted =
       let room = length before / 2 in
@@ -56,27 +57,24 @@ module _ (q : Question) (line before after : List ℕ) (r : ℕ) (done : ReadByt
       let taken = accepted-takes q (lineOn line) room none in
       let a = accepted-is-an-answer q (lineOn line) room none in (
         a .values,
-        record {
-          good = taken .good;
-          room = omega (arith, taken .enough);
-          fitting = a .answer .fitting;
-          written = whole-words q line room small none ∙ ap asBytes (a .answer .written);
-        },
+        lineOn line,
+        whole-words q line room small none,
+        record { good = taken .good; room = omega (arith, taken .enough); answer = a .answer },
         record {
           reading = subst (PackedAs r) (a .reading) (packed-as q line before after r done);
           output = done .leaves ∙ ap (λ (l : List ℕ). atFront (asBytes l) before) (a .handed);
         },
       )
 
-  pub always-then : Sendable q → (values : List ℕ) → AnswerBytesDue q line before values → (packedNumber r ≡ 0) × WithBytes q values before after r
+  pub always-then : Sendable q → (values words : List ℕ) → line ≡ asBytes words → Due q words (length before / 2) values → (packedNumber r ≡ 0) × WithBytes q values before after r
   unfolding readingOn
-  always-then sends values due =
+  always-then sends values words written due =
       let room = length before / 2 in
       let sent = lineOf (answerBytes q values 0) in
-      let on : lineOn line ≡ sent = ap lineOn (due .written) ∙ line-on sent (line-wide (answerBytes q values 0)) in
-      let a = answer-is-accepted q (due .good) sends room (omega (arith, due .room)) values sent (record { fitting = due .fitting; written = refl }) in
+      let on : lineOn line ≡ sent = ap lineOn (written ∙ ap asBytes (due .answer .written)) ∙ line-on sent (line-wide (answerBytes q values 0)) in
+      let a = answer-is-accepted q (due .good) sends room (omega (arith, due .room)) values sent (record { fitting = due .answer .fitting; written = refl }) in
       let says : readingOn q line before ≡ readingOf q values = ap (λ (l : List ℕ). judgeOf q l room) on ∙ a .0 in (
-        own-number ∙ ap numberOf says ∙ accepted-reading q values (due .fitting),
+        own-number ∙ ap numberOf says ∙ accepted-reading q values (due .answer .fitting),
         record {
           reading = subst (PackedAs r) says (packed-as q line before after r done);
           output =
@@ -88,5 +86,7 @@ module _ (q : Question) (line before after : List ℕ) (r : ℕ) (done : ReadByt
 pub c-side-answers : CSideAnswers
 c-side-answers = record {
   only-then = λ c. only-then (askedBy c);
-  always-then = λ c line before after r done. always-then (askedBy c) line before after r done (sendable c);
+  always-then = λ c line before after r done values words written due.
+      always-then (askedBy c) line before after r done (sendable c) values words written
+      (record { good = due .good; room = omega (arith, due .room); answer = due .answer });
 }

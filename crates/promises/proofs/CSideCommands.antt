@@ -16,28 +16,29 @@ use Rattle.commands.specs.Command.{commandLine, issuedOf, issuedNumber}
 use Rattle.commands.specs.declared.Issued.the-variants.{Words, Question, Room}
 use Rattle.c_commands.specs.CommandBytes.{packedIssued, CommandBytesDone}
 use Rattle.promises.specs.Demand1.{packedNumber}
+use Rattle.promises.specs.Demand2.{CommandDue}
 use Rattle.promises.specs.CSide.{askedBy}
-use Rattle.promises.specs.CSideCommands.{CommandBytesDue, CommandBytesOut, CSideCommands}
+use Rattle.promises.specs.CSideCommands.{CommandBytesOut, CSideCommands}
 
 module _ (q : asked.Question) (before after : List ℕ) (r : ℕ) (done : CommandBytesDone q before after r) where
-  is-issued : CommandBytesDue q before → issuedOf q (length before / 2) ≡ Words (length (commandLine q))
+  is-issued : CommandDue q (length before / 2) → issuedOf q (length before / 2) ≡ Words (length (commandLine q))
   unfolding issuedOf
   is-issued due =
       ap₂ (λ (t u : Bool). cond t (cond u (Words (length (commandLine q))) Room) Question) (due .good)
       (le-leb (length (commandLine q)) (length before / 2) (omega (arith, due .room)))
 
-  was-due : packedNumber r ≡ 0 → CommandBytesDue q before
+  was-due : packedNumber r ≡ 0 → CommandDue q (length before / 2)
   unfolding issuedOf
   was-due accepted = by-tests (goodQuestion q) refl (leb (length (commandLine q)) (length before / 2)) refl (done .says)
     where
       by-tests : (t : Bool) → goodQuestion q ≡ t → (u : Bool) → leb (length (commandLine q)) (length before / 2) ≡ u
-          → r ≡ packedIssued (cond t (cond u (Words (length (commandLine q))) Room) Question) → CommandBytesDue q before
+          → r ≡ packedIssued (cond t (cond u (Words (length (commandLine q))) Room) Question) → CommandDue q (length before / 2)
       by-tests true good true fits e =
           record { good = good; room = omega (arith, leb-true (length (commandLine q)) (length before / 2) fits) }
       by-tests true good false fits e = absurd (omega arith)
       by-tests false bad u fits e = absurd (omega arith)
 
-  written : CommandBytesDue q before → (packedNumber r ≡ 0) × CommandBytesOut q before after r
+  written : CommandDue q (length before / 2) → (packedNumber r ≡ 0) × CommandBytesOut q before after r
   written due =
       let packed = done .says ∙ ap packedIssued (is-issued due) in (
         omega (arith, packed),
@@ -51,5 +52,6 @@ pub c-side-commands : CSideCommands
 c-side-commands = record {
   only-then = λ c before after r done accepted.
       let due = was-due (askedBy c) before after r done accepted in (due, written (askedBy c) before after r done due .1);
-  always-then = λ c. written (askedBy c);
+  always-then = λ c before after r done due.
+      written (askedBy c) before after r done (record { good = due .good; room = omega (arith, due .room) });
 }

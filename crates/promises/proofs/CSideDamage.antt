@@ -37,11 +37,10 @@ module _ (q : Question) (values : List ℕ) (all : ReadsAll q values) where
       → (packedNumber r ≡ 0) × (upperHalf r ≡ q .n) × (after ≡ atFront (asBytes values) before)
   taken before after r room done =
       let wanted = values-wanted q (all .asks .kind) in
-      let is = always-then q (answerInBytes q values) before after r done (all .asks .sends) values (record {
+      let is = always-then q (answerInBytes q values) before after r done (all .asks .sends) values (answerLine q values) refl (record {
         good = all .asks .good;
         room = omega (arith, wanted, room);
-        fitting = read (omega (arith, all .asks .kind)) (omega (arith, all .asks .kind)) (all-values q values all);
-        written = refl;
+        answer = record { fitting = read (omega (arith, all .asks .kind)) (omega (arith, all .asks .kind)) (all-values q values all); written = refl };
       }) in
       let reads : 3 ≤ q .kind = omega (arith, all .asks .kind) in
       let reading : readingOf q values ≡ Values (shapeOf q .values) = of-read (q .kind) _ _ _ reads in

@@ -36,13 +36,13 @@ use Rattle.promises.proofs.Rows.{by-number, carried}
 
 -- ---- commands
 
-written : (q : asked.Question) (before after : List ℕ) (r : Issued) → CommandPut q before after r → CommandDue q before → CommandOut q before after r
+written : (q : asked.Question) (before after : List ℕ) (r : Issued) → CommandPut q before after r → CommandDue q (length before) → CommandOut q before after r
 written q before after r done due = record {
   words = done .says ∙ issued-good q (length before) (due .good) (omega arith);
   line = command-written q before after r done (due .good) (omega arith);
 }
 
-was-due : (q : asked.Question) (before after : List ℕ) (r : Issued) → CommandPut q before after r → issuedNumber r ≡ 0 → CommandDue q before
+was-due : (q : asked.Question) (before after : List ℕ) (r : Issued) → CommandPut q before after r → issuedNumber r ≡ 0 → CommandDue q (length before)
 was-due q before after (Words n) done none =
     let i = issued-words q (length before) n (sym (done .says)) in
     record { good = i .good; room = omega (arith, i .fits) }
@@ -52,7 +52,7 @@ was-due q before after Room done none = absurd (omega arith)
 -- ---- answers
 
 module _ (q : asked.Question) (line before after : List ℕ) (r : Reading) (done : ReadDone q line before after r) where
-  only-then : Accepted r → (values : List ℕ) × Due q line before values × With q values before after r
+  only-then : Accepted r → (values : List ℕ) × Due q line (length before) values × With q values before after r
   only-then accepted =
       let taken = accepted-takes q line (length before) (ap numberOf (sym (done .says)) ∙ accepted) in
       let a = accepted-is-an-answer q line (length before) (ap numberOf (sym (done .says)) ∙ accepted) in (
@@ -64,7 +64,7 @@ module _ (q : asked.Question) (line before after : List ℕ) (r : Reading) (done
         },
       )
 
-  always-then : Sendable q → (values : List ℕ) → Due q line before values → Accepted r × With q values before after r
+  always-then : Sendable q → (values : List ℕ) → Due q line (length before) values → Accepted r × With q values before after r
   always-then s values due =
       let a = answer-is-accepted q (due .good) s (length before) (omega arith) values line (due .answer) in (
         ap numberOf (done .says ∙ a .0) ∙ accepted-reading q values (due .answer .fitting),

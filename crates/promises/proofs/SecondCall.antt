@@ -1,21 +1,19 @@
 -- The second call is as promised: the laws of `parts` and `acceptance`, said of the call that `read` answers beside it.
-use mathlib.Core.Path.{_≡_, refl, sym, ap, subst, _∙_}
+use mathlib.Core.Path.{_≡_, sym, ap, subst, _∙_}
 use mathlib.Core.Bool.{Bool, true, cond}
 use mathlib.Core.Logic.{⊎-elim}
 use mathlib.Core.List.{List, []}
 use Prim.Native.Nat.{ℕ, _+_, _*_, _≤_, _<_}
 use native.Mathlib.Nat.{eq-zero-or-pos}
 use native.Mathlib.Omega.{arith}
-use lib.Dec.{eqb}
 use lib.ListN.{length}
-use borrow.Author.Tests.{eq-eqb, ne-eqb}
+use borrow.Author.Tests.{ne-eqb}
 use Rattle.packing.specs.Words.{lineOn}
 use Rattle.questions.specs.Question.{covers}
 use Rattle.questions.specs.Shape.{shapeOf}
 use Rattle.questions.specs.declared.question.Question.{Question}
 use Rattle.readings.specs.Reading.{valuesTaken}
 use Rattle.readings.specs.declared.Reading.{Reading}
-use Rattle.judging.specs.Judge.{judgeOf}
 use Rattle.judging.proofs.Accepted.{some-values}
 use Rattle.judging.proofs.Bounds.{enough-room}
 use Rattle.reader.specs.Read.{ReadDone}

@@ -3,42 +3,31 @@
 -- two bytes each, low first. Claimed of every question's seven numbers, every line of bytes, every output, and every answer that meets
 -- `bmc_read`'s contract.
 use mathlib.Core.Path.{_≡_}
-use mathlib.Core.Bool.{true}
 use mathlib.Core.List.{List}
-use Prim.Native.Nat.{ℕ, _*_, _≤_}
+use Prim.Native.Nat.{ℕ, _/_}
 use lib.ListN.{length}
 use Rattle.remainder.specs.Turned.{Bytes}
-use Rattle.lines.specs.Line.{lineOf}
 use Rattle.lines.specs.Write.{atFront}
 use Rattle.packing.specs.Words.{asBytes}
-use Rattle.questions.specs.Question.{goodQuestion}
-use Rattle.questions.specs.Shape.{shapeOf}
-use Rattle.questions.specs.Bytes.{answerBytes}
 use Rattle.questions.specs.declared.question.Question.{Question}
-use Rattle.acceptance.specs.Answer.{Fitting, readingOf, handedOut}
+use Rattle.acceptance.specs.Answer.{readingOf, handedOut}
 use Rattle.c_reader.specs.ReadBytes.{ReadBytesDone}
 use Rattle.promises.specs.Demand1.{packedNumber}
+use Rattle.promises.specs.Demand2.{Due}
 use Rattle.promises.specs.CSide.{Numbers, askedBy, PackedAs}
 
--- when acceptance is due: the question is good, the values have room, an odd last byte counting for none, and the bytes are those of the line
--- of the right answer for these values, with check byte 00h
-pub record AnswerBytesDue (q : Question) (line before values : List ℕ) : Type 0 where
-  pub good : goodQuestion q ≡ true
-  pub room : 2 * shapeOf q .values ≤ length before
-  pub fitting : Fitting q values
-  pub written : line ≡ asBytes (lineOf (answerBytes q values 0x00))
-
--- and with which values: the reading is that answer's, packed, and its values stand at the front of the output, the rest as it was
+-- with which values acceptance is due: the reading is that answer's, packed, and its values stand at the front of the output, the rest as it was
 pub record WithBytes (q : Question) (values before after : List ℕ) (r : ℕ) : Type 0 where
   pub reading : PackedAs r (readingOf q values)
   pub output : after ≡ atFront (asBytes (handedOut q values)) before
 
 pub record CSideAnswers : Type 0 where
-  -- what is accepted was due, and is handed out with the values of that answer; every byte that a program can pass is below 256
+  -- what is accepted was due, two bytes being lent for a value, and an odd last byte counting for none; and is handed out with the values of that
+  -- answer; every byte that a program can pass is below 256
   pub only-then : (c : Numbers) (line before after : List ℕ) (r : ℕ) → ReadBytesDone (askedBy c) line before after r
       → Bytes line → packedNumber r ≡ 0
-      → (values : List ℕ) × AnswerBytesDue (askedBy c) line before values × WithBytes (askedBy c) values before after r
+      → (values words : List ℕ) × (line ≡ asBytes words) × Due (askedBy c) words (length before / 2) values × WithBytes (askedBy c) values before after r
   -- and where it is due, for any values, it is accepted with those values
   pub always-then : (c : Numbers) (line before after : List ℕ) (r : ℕ) → ReadBytesDone (askedBy c) line before after r
-      → (values : List ℕ) → AnswerBytesDue (askedBy c) line before values
+      → (values words : List ℕ) → line ≡ asBytes words → Due (askedBy c) words (length before / 2) values
       → (packedNumber r ≡ 0) × WithBytes (askedBy c) values before after r

@@ -3,33 +3,27 @@
 -- 31 of the answer say how many words. Claimed of every question's seven numbers, every output, and every answer that meets `bmc_command`'s
 -- contract.
 use mathlib.Core.Path.{_≡_}
-use mathlib.Core.Bool.{true}
 use mathlib.Core.List.{List}
-use Prim.Native.Nat.{ℕ, _*_, _≤_}
+use Prim.Native.Nat.{ℕ, _/_}
 use lib.ListN.{length}
 use Rattle.lines.specs.Write.{atFront}
 use Rattle.packing.specs.Words.{asBytes}
-use Rattle.questions.specs.Question.{goodQuestion}
 use Rattle.questions.specs.declared.question.Question.{Question}
 use Rattle.commands.specs.Command.{commandLine}
 use Rattle.c_commands.specs.CommandBytes.{CommandBytesDone}
 use Rattle.promises.specs.Demand1.{packedNumber}
+use Rattle.promises.specs.Demand2.{CommandDue}
 use Rattle.promises.specs.CSide.{Numbers, askedBy, upperHalf}
 
--- when a command is due: the question is good, and its line has room; an odd last byte counts for none
-pub record CommandBytesDue (q : Question) (before : List ℕ) : Type 0 where
-  pub good : goodQuestion q ≡ true
-  pub room : 2 * length (commandLine q) ≤ length before
-
--- and which
+-- which command, where one is due
 pub record CommandBytesOut (q : Question) (before after : List ℕ) (r : ℕ) : Type 0 where
   pub words : upperHalf r ≡ length (commandLine q)
   pub line : after ≡ atFront (asBytes (commandLine q)) before
 
 pub record CSideCommands : Type 0 where
-  -- written only where due,
+  -- written only where due, two bytes being lent for a word, and an odd last byte counting for none,
   pub only-then : (c : Numbers) (before after : List ℕ) (r : ℕ) → CommandBytesDone (askedBy c) before after r
-      → packedNumber r ≡ 0 → CommandBytesDue (askedBy c) before × CommandBytesOut (askedBy c) before after r
+      → packedNumber r ≡ 0 → CommandDue (askedBy c) (length before / 2) × CommandBytesOut (askedBy c) before after r
   -- and always where due
   pub always-then : (c : Numbers) (before after : List ℕ) (r : ℕ) → CommandBytesDone (askedBy c) before after r
-      → CommandBytesDue (askedBy c) before → (packedNumber r ≡ 0) × CommandBytesOut (askedBy c) before after r
+      → CommandDue (askedBy c) (length before / 2) → (packedNumber r ≡ 0) × CommandBytesOut (askedBy c) before after r

@@ -29,10 +29,10 @@ use Rattle.promises.specs.ByNumber.{NumberDue}
 use Rattle.promises.specs.Rows.{readRows, Carried}
 use Rattle.promises.specs.Certificate.{PrintedCertificate}
 
--- when a command is due: the question is good, and its line has room
-pub record CommandDue (q : Question) (before : List ℕ) : Type 0 where
+-- when a command is due, where so many words are lent: the question is good, and its line has room
+pub record CommandDue (q : Question) (lent : ℕ) : Type 0 where
   pub good : goodQuestion q ≡ true
-  pub room : length (commandLine q) ≤ length before
+  pub room : length (commandLine q) ≤ lent
 
 -- and which: the line of the table's command bytes stands at the front of the output, the rest as it was
 pub record CommandOut (q : Question) (before after : List ℕ) (r : Issued) : Type 0 where
@@ -43,10 +43,11 @@ pub record CommandOut (q : Question) (before after : List ℕ) (r : Issued) : Ty
 abbrev pub Accepted : Reading → Type 0
 Accepted reading = numberOf reading ≡ 0
 
--- when acceptance is due: the question is good, the values have room, and the line is the line of the right answer for these values
-pub record Due (q : Question) (line before values : List ℕ) : Type 0 where
+-- when acceptance is due, where so many values are lent room: the question is good, the values have room, and the line is the line of the right
+-- answer for these values
+pub record Due (q : Question) (line : List ℕ) (lent : ℕ) (values : List ℕ) : Type 0 where
   pub good : goodQuestion q ≡ true
-  pub room : shapeOf q .values ≤ length before
+  pub room : shapeOf q .values ≤ lent
   pub answer : AnswerTo q values line
 
 -- and with which values: the reading is that answer's, and its values stand at the front of the output
@@ -57,15 +58,15 @@ pub record With (q : Question) (values before after : List ℕ) (r : Reading) : 
 pub record Demand2 : Type 0 where
   -- commands: written only where due, and always where due
   pub command-only-then : (q : Question) (before after : List ℕ) (r : Issued) → CommandPut q before after r
-      → issuedNumber r ≡ 0 → CommandDue q before × CommandOut q before after r
+      → issuedNumber r ≡ 0 → CommandDue q (length before) × CommandOut q before after r
   pub command-always-then : (q : Question) (before after : List ℕ) (r : Issued) → CommandPut q before after r
-      → CommandDue q before → CommandOut q before after r
+      → CommandDue q (length before) → CommandOut q before after r
   -- answers: what is accepted was due, and is handed out with the values of that answer,
   pub only-then : (q : Question) (line before after : List ℕ) (r : Reading) → ReadDone q line before after r
-      → Accepted r → (values : List ℕ) × Due q line before values × With q values before after r
+      → Accepted r → (values : List ℕ) × Due q line (length before) values × With q values before after r
   -- and where it is due, for any values, it is accepted with those values
   pub always-then : (q : Question) (line before after : List ℕ) (r : Reading) → ReadDone q line before after r
-      → Sendable q → (values : List ℕ) → Due q line before values → Accepted r × With q values before after r
+      → Sendable q → (values : List ℕ) → Due q line (length before) values → Accepted r × With q values before after r
   -- HELLOALL's count is the third byte of the line, whatever n the question has
   pub hello-count : (q : Question) (line before after : List ℕ) (r : Reading) → ReadDone q line before after r
       → q .kind ≡ helloAll → Accepted r → r ≡ Counted (byteAt line 2)
