@@ -92,10 +92,11 @@ module _ (q : Question) (values : List ℕ) (all : ReadsAll q values) where
 pub c-side-damage : CSideDamage
 c-side-damage = record {
   undamaged = λ c. taken (askedBy c);
-  five-bits = λ c values all few masks small d.
+  five-bits = λ c values all least most masks small d.
       let q = askedBy c in
       refused q values all masks small (d .every)
-      (demand-3 .five-bits q values all (omega arith) (wordsOf masks) (on-words q values all masks small (d .every) 5 (d .some) (omega (arith, d .few))));
+      (demand-3 .five-bits q values all (omega arith) (omega arith) (wordsOf masks)
+      (on-words q values all masks small (d .every) 5 (d .some) (omega (arith, d .few))));
   three-bits = λ c values all least most masks small d.
       let q = askedBy c in
       refused q values all masks small (d .every)

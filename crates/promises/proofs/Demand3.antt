@@ -74,7 +74,7 @@ module _ (q : Question) (values : List ℕ) (all : ReadsAll q values) where
 pub demand-3 : Demand3
 demand-3 = record {
   undamaged = taken;
-  five-bits = λ q values all few masks d.
+  five-bits = λ q values all least most masks d.
       refused q values all masks
       (λ other fits w.
       let least = six-at-least q (all .asks) values other (all-values q values all) fits masks (d .every) (omega arith) w (omega arith) in

@@ -19,18 +19,18 @@ use Rattle.promises.specs.CSide.{Numbers, askedBy, upperHalf}
 abbrev pub answerInBytes : Question → (values : List ℕ) → List ℕ
 answerInBytes q values = asBytes (answerLine q values)
 
+-- one to so many bits turned over, one mask a byte, each a byte itself, with from `least` to `most` devices: the bytes are turned away, and the
+-- output stays as it was
+abbrev pub BytesDetected : (least most bits : ℕ) → Type 0
+BytesDetected least most bits =
+    (c : Numbers) (values : List ℕ) → ReadsAll (askedBy c) values → least ≤ c .n → c .n ≤ most
+    → (masks : List ℕ) → Bytes masks → Damage (answerInBytes (askedBy c) values) masks bits
+    → (before after : List ℕ) (r : ℕ) → ReadBytesDone (askedBy c) (turned (answerInBytes (askedBy c) values) masks) before after r
+    → TurnedAway (packedNumber r) × (after ≡ before)
+
 pub record CSideDamage : Type 0 where
   pub undamaged : (c : Numbers) (values : List ℕ) → ReadsAll (askedBy c) values
       → (before after : List ℕ) (r : ℕ) → 2 * c .n ≤ length before → ReadBytesDone (askedBy c) (answerInBytes (askedBy c) values) before after r
       → (packedNumber r ≡ 0) × (upperHalf r ≡ c .n) × (after ≡ atFront (asBytes values) before)
-  -- one mask a byte, each a byte itself
-  pub five-bits : (c : Numbers) (values : List ℕ) → ReadsAll (askedBy c) values
-      → c .n ≤ 14
-      → (masks : List ℕ) → Bytes masks → Damage (answerInBytes (askedBy c) values) masks 5
-      → (before after : List ℕ) (r : ℕ) → ReadBytesDone (askedBy c) (turned (answerInBytes (askedBy c) values) masks) before after r
-      → TurnedAway (packedNumber r) × (after ≡ before)
-  pub three-bits : (c : Numbers) (values : List ℕ) → ReadsAll (askedBy c) values
-      → 15 ≤ c .n → c .n ≤ 32
-      → (masks : List ℕ) → Bytes masks → Damage (answerInBytes (askedBy c) values) masks 3
-      → (before after : List ℕ) (r : ℕ) → ReadBytesDone (askedBy c) (turned (answerInBytes (askedBy c) values) masks) before after r
-      → TurnedAway (packedNumber r) × (after ≡ before)
+  pub five-bits : BytesDetected 1 14 5
+  pub three-bits : BytesDetected 15 32 3

@@ -42,17 +42,16 @@ pub record Damage (line masks : List ℕ) (most : ℕ) : Type 0 where
   pub some : 1 ≤ weight masks
   pub few : weight masks ≤ most
 
+-- one to so many line bits turned over, with from `least` to `most` devices: the line is turned away, and the output stays as it was
+abbrev pub Detected : (least most bits : ℕ) → Type 0
+Detected least most bits =
+    (q : Question) (values : List ℕ) → ReadsAll q values → least ≤ q .n → q .n ≤ most → (masks : List ℕ) → Damage (answerLine q values) masks bits
+    → (before after : List ℕ) (r : Reading) → ReadDone q (turned (answerLine q values) masks) before after r
+    → TurnedAway (numberOf r) × (after ≡ before)
+
 pub record Demand3 : Type 0 where
   pub undamaged : (q : Question) (values : List ℕ) → ReadsAll q values
       → (before after : List ℕ) (r : Reading) → q .n ≤ length before → ReadDone q (answerLine q values) before after r
       → (r ≡ Values (q .n)) × (after ≡ atFront values before)
-  pub five-bits : (q : Question) (values : List ℕ) → ReadsAll q values
-      → q .n ≤ 14
-      → (masks : List ℕ) → Damage (answerLine q values) masks 5
-      → (before after : List ℕ) (r : Reading) → ReadDone q (turned (answerLine q values) masks) before after r
-      → TurnedAway (numberOf r) × (after ≡ before)
-  pub three-bits : (q : Question) (values : List ℕ) → ReadsAll q values
-      → 15 ≤ q .n → q .n ≤ 32
-      → (masks : List ℕ) → Damage (answerLine q values) masks 3
-      → (before after : List ℕ) (r : Reading) → ReadDone q (turned (answerLine q values) masks) before after r
-      → TurnedAway (numberOf r) × (after ≡ before)
+  pub five-bits : Detected 1 14 5
+  pub three-bits : Detected 15 32 3
