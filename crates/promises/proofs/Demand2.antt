@@ -6,10 +6,9 @@ use Prim.Native.Nat.{ℕ}
 use native.Mathlib.Nat.{le-refl}
 use native.Mathlib.Omega.{arith}
 use lib.ListN.{length}
-use Rattle.lines.specs.Line.{byteAt, bytesOf}
-use Rattle.lines.proofs.Line.{bytes-at}
+use Rattle.lines.specs.Line.{bytesOf}
 use Rattle.lines.specs.Write.{atFront}
-use Rattle.questions.proofs.Good.{hello-shape, words-most}
+use Rattle.questions.proofs.Good.{words-most}
 use Rattle.questions.specs.Question.{helloAll}
 use Rattle.questions.specs.Shape.{shapeOf}
 use Rattle.questions.specs.declared.question.Question as asked
@@ -21,7 +20,6 @@ use Rattle.readings.specs.Reading.{numberOf}
 use Rattle.reader.specs.Read.{ReadDone}
 use Rattle.readings.specs.declared.Reading.{Reading}
 use Rattle.readings.specs.declared.Reading.the-variants.{Counted}
-use Rattle.contents.specs.Rows.{byteIn}
 use Rattle.contents.proofs.RowLaws.{hello-taken}
 use Rattle.judging.proofs.Accepted.{taken-reads, accepted-takes}
 use Rattle.acceptance.specs.Answer.{Sendable}
@@ -29,7 +27,7 @@ use Rattle.acceptance.proofs.Lengths.{command-words}
 use Rattle.acceptance.proofs.AcceptedIsAnAnswer.{accepted-is-an-answer}
 use Rattle.acceptance.proofs.AnswerIsAccepted.{answer-is-accepted, accepted-reading}
 use Rattle.promises.specs.ByNumber.{NumberDue}
-use Rattle.promises.specs.Rows.{readRows}
+use Rattle.promises.specs.Rows.{countIn, readRows}
 use Rattle.promises.specs.Demand2.{CommandDue, CommandOut, Accepted, Due, With, Demand2}
 use Rattle.promises.proofs.Certificate.{printed-certificate}
 use Rattle.promises.proofs.Rows.{by-number, carried}
@@ -74,11 +72,10 @@ module _ (q : asked.Question) (line before after : List ℕ) (r : Reading) (done
         },
       )
 
-  hello-count : q .kind ≡ helloAll → Accepted r → r ≡ Counted (byteAt line 2)
+  hello-count : q .kind ≡ helloAll → Accepted r → r ≡ Counted (countIn (bytesOf line))
   hello-count hello accepted =
       let taken = accepted-takes q line (length before) (ap numberOf (sym (done .says)) ∙ accepted) in
-      let third : byteIn (bytesOf line) 2 ≡ byteAt line 2 = bytes-at line 2 (omega (arith, taken .words, ap (λ s. s .words) (hello-shape q hello))) in
-      done .says ∙ taken-reads q line (length before) taken ∙ sym (hello-taken q (bytesOf line) hello) ∙ ap Counted third
+      done .says ∙ taken-reads q line (length before) taken ∙ sym (hello-taken q (bytesOf line) hello)
 
 pub demand-2 : Demand2
 demand-2 = record {

@@ -19,7 +19,8 @@ use Rattle.twin.proofs.Stepping.{says-handed, leaves-line, leaves-memory, hops-
 use Rattle.roundtrip.specs.Between.{broughtBack, ChangedBy}
 use Rattle.roundtrip.proofs.RoundTrip.{right-answer}
 use Rattle.roundtrip.proofs.RegistersAfter.{held-after}
-use Rattle.promises.specs.RoundTrip.{PutTo, Trip, WholeTrip, RoundTrip}
+use Rattle.promises.specs.Demand2.{Accepted, With}
+use Rattle.promises.specs.RoundTrip.{PutTo, Trip, RoundTrip}
 use Rattle.promises.proofs.Demand2.{demand-2}
 use Rattle.promises.proofs.EachStep.{is-a-chain}
 
@@ -46,7 +47,7 @@ module _ (q : Question) (n : ℕ) (memory : List ℕ) (to : PutTo q n memory) wh
       → CommandPut q written line issued → length (commandLine q) ≤ length written
       → ChainDone n memory memoryLeft (take (length (commandLine q)) line) out outAfter r → length (commandLine q) ≤ length out
       → ReadDone q (take (length (commandLine q)) outAfter) before after reading → shapeOf q .values ≤ length before
-      → WholeTrip q n memory memoryLeft before after reading
+      → Accepted reading × With q (broughtBack q n memory) before after reading × ChangedBy q n memory memoryLeft
   whole-trip written line out outAfter memoryLeft before after issued r reading put room-to-write stepped room-to-step done room-to-read =
       let words = length (commandLine q) in
       let sent : take words line ≡ commandLine q =
@@ -56,7 +57,7 @@ module _ (q : Question) (n : ℕ) (memory : List ℕ) (to : PutTo q n memory) wh
       ap (take words) (there .stands) ∙ take-at (there .answer) (drop (length (there .answer)) out) words (there .words) in
       let read = demand-2 .always-then q (there .answer) before after reading (subst (λ (l : List ℕ). ReadDone q l before after reading) back done)
       (to .sends) (broughtBack q n memory) (record { good = to .good; room = room-to-read; answer = there .right }) in
-      record { accepted = read .0; given = read .1; holds = there .holds }
+      (read .0, read .1, there .holds)
 
 pub round-trip : RoundTrip
 round-trip = record { through = trip; whole = whole-trip }

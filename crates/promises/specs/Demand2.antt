@@ -11,7 +11,7 @@ use mathlib.Core.Bool.{true}
 use mathlib.Core.List.{List}
 use Prim.Native.Nat.{ℕ, _≤_}
 use lib.ListN.{length}
-use Rattle.lines.specs.Line.{byteAt}
+use Rattle.lines.specs.Line.{bytesOf}
 use Rattle.lines.specs.Write.{atFront}
 use Rattle.questions.specs.Question.{helloAll, goodQuestion}
 use Rattle.questions.specs.Shape.{shapeOf}
@@ -26,7 +26,7 @@ use Rattle.readings.specs.declared.Reading.the-variants.{Counted, Refused}
 use Rattle.reader.specs.Read.{ReadDone}
 use Rattle.acceptance.specs.Answer.{AnswerTo, Sendable, readingOf, handedOut}
 use Rattle.promises.specs.ByNumber.{NumberDue}
-use Rattle.promises.specs.Rows.{readRows, Carried}
+use Rattle.promises.specs.Rows.{countIn, readRows, Carried}
 use Rattle.promises.specs.Certificate.{PrintedCertificate}
 
 -- when a command is due, where so many words are lent: the question is good, and its line has room
@@ -69,7 +69,7 @@ pub record Demand2 : Type 0 where
       → Sendable q → (values : List ℕ) → Due q line (length before) values → Accepted r × With q values before after r
   -- HELLOALL's count is the third byte of the line, whatever n the question has
   pub hello-count : (q : Question) (line before after : List ℕ) (r : Reading) → ReadDone q line before after r
-      → q .kind ≡ helloAll → Accepted r → r ≡ Counted (byteAt line 2)
+      → q .kind ≡ helloAll → Accepted r → r ≡ Counted (countIn (bytesOf line))
   -- turned away exactly where a row of the table is given, and by the first that is,
   pub by-rows : (q : Question) (line before after : List ℕ) (r : Reading) → ReadDone q line before after r
       → NumberDue (readRows q line (length before)) (numberOf r)

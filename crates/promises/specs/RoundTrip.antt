@@ -42,12 +42,6 @@ pub record Trip (q : Question) (n : ℕ) (memory memoryLeft out outAfter : List 
   pub stands : outAfter ≡ atFront answer out
   pub holds : ChangedBy q n memory memoryLeft
 
--- the whole way: the reader accepts what came back and hands out what the registers held; and what they hold then
-pub record WholeTrip (q : Question) (n : ℕ) (memory memoryLeft before after : List ℕ) (reading : Reading) : Type 0 where
-  pub accepted : Accepted reading
-  pub given : With q (broughtBack q n memory) before after reading
-  pub holds : ChangedBy q n memory memoryLeft
-
 pub record RoundTrip : Type 0 where
   -- through the chain
   pub through : (q : Question) (n : ℕ) (memory : List ℕ) → PutTo q n memory
@@ -55,10 +49,11 @@ pub record RoundTrip : Type 0 where
       → length (commandLine q) ≤ length out
       → Trip q n memory memoryLeft out outAfter r
   -- and the whole way, call by call: what `write_command` wrote, as many words of it as the command has, through `run_chain`; and what stands
-  -- in as many words of its output, read by `read`
+  -- in as many words of its output, read by `read`: the reader accepts what came back and hands out what the registers held; and what they hold
+  -- then
   pub whole : (q : Question) (n : ℕ) (memory : List ℕ) → PutTo q n memory
       → (written line out outAfter memoryLeft before after : List ℕ) (issued : Issued) (r : Stepped) (reading : Reading)
       → CommandPut q written line issued → length (commandLine q) ≤ length written
       → ChainDone n memory memoryLeft (take (length (commandLine q)) line) out outAfter r → length (commandLine q) ≤ length out
       → ReadDone q (take (length (commandLine q)) outAfter) before after reading → shapeOf q .values ≤ length before
-      → WholeTrip q n memory memoryLeft before after reading
+      → Accepted reading × With q (broughtBack q n memory) before after reading × ChangedBy q n memory memoryLeft
