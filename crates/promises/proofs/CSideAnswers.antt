@@ -26,13 +26,10 @@ use Rattle.acceptance.proofs.AnswerIsAccepted.{answer-is-accepted, accepted-rea
 use Rattle.c_reader.specs.ReadBytes.{readingOn, ReadBytesDone}
 use Rattle.promises.specs.Demand1.{packedNumber}
 use Rattle.promises.specs.Demand2.{Due}
-use Rattle.promises.specs.CSide.{Numbers, askedBy, PackedAs}
+use Rattle.promises.specs.CSide.{PackedAs}
 use Rattle.promises.specs.CSideAnswers.{WithBytes, CSideAnswers}
 use Rattle.promises.proofs.CSideLine.{number-packed, line-on}
 use Rattle.promises.proofs.CSidePacked.{packed-as}
-
-pub sendable : (c : Numbers) → Sendable (askedBy c)
-sendable c = record { reg = c .byte; value = c .word }
 
 -- the bytes of an accepted line are those of its words
 whole-words : (q : Question) (line : List ℕ) (room : ℕ) → Bytes line → numberOf (judgeOf q (lineOn line) room) ≡ 0 → line ≡ asBytes (lineOn line)
@@ -85,8 +82,8 @@ module _ (q : Question) (line before after : List ℕ) (r : ℕ) (done : ReadByt
 
 pub c-side-answers : CSideAnswers
 c-side-answers = record {
-  only-then = λ c. only-then (askedBy c);
-  always-then = λ c line before after r done values words written due.
-      always-then (askedBy c) line before after r done (sendable c) values words written
+  only-then = only-then;
+  always-then = λ q line before after r done sends values words written due.
+      always-then q line before after r done sends values words written
       (record { good = due .good; room = omega (arith, due .room); answer = due .answer });
 }

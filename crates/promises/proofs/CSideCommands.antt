@@ -17,7 +17,6 @@ use Rattle.commands.specs.declared.Issued.the-variants.{Words, Question, Room}
 use Rattle.c_commands.specs.CommandBytes.{packedIssued, CommandBytesDone}
 use Rattle.promises.specs.Demand1.{packedNumber}
 use Rattle.promises.specs.Demand2.{CommandDue}
-use Rattle.promises.specs.CSide.{askedBy}
 use Rattle.promises.specs.CSideCommands.{CommandBytesOut, CSideCommands}
 
 module _ (q : asked.Question) (before after : List ℕ) (r : ℕ) (done : CommandBytesDone q before after r) where
@@ -50,8 +49,8 @@ module _ (q : asked.Question) (before after : List ℕ) (r : ℕ) (done : Comman
 
 pub c-side-commands : CSideCommands
 c-side-commands = record {
-  only-then = λ c before after r done accepted.
-      let due = was-due (askedBy c) before after r done accepted in (due, written (askedBy c) before after r done due .1);
-  always-then = λ c before after r done due.
-      written (askedBy c) before after r done (record { good = due .good; room = omega (arith, due .room) });
+  only-then = λ q before after r done accepted.
+      let due = was-due q before after r done accepted in (due, written q before after r done due .1);
+  always-then = λ q before after r done due.
+      written q before after r done (record { good = due .good; room = omega (arith, due .room) });
 }

@@ -23,7 +23,7 @@ use Rattle.acceptance.specs.Answer.Fitting.{read}
 use Rattle.c_reader.specs.ReadBytes.{readingOn, ReadBytesDone}
 use Rattle.promises.specs.Demand1.{TurnedAway, packedNumber}
 use Rattle.promises.specs.Demand3.{ReadsAll, answerLine, Damage}
-use Rattle.promises.specs.CSide.{askedBy, upperHalf, PackedAs}
+use Rattle.promises.specs.CSide.{upperHalf, PackedAs}
 use Rattle.promises.specs.CSideDamage.{answerInBytes, CSideDamage}
 use Rattle.promises.proofs.RefusedBytes.{refused-read-bytes}
 use Rattle.promises.proofs.MasksOnWire.{turned-registers}
@@ -91,14 +91,12 @@ module _ (q : Question) (values : List ℕ) (all : ReadsAll q values) where
 
 pub c-side-damage : CSideDamage
 c-side-damage = record {
-  undamaged = λ c. taken (askedBy c);
-  five-bits = λ c values all least most masks small d.
-      let q = askedBy c in
+  undamaged = taken;
+  five-bits = λ q values all least most masks small d.
       refused q values all masks small (d .every)
       (demand-3 .five-bits q values all (omega arith) (omega arith) (wordsOf masks)
       (on-words q values all masks small (d .every) 5 (d .some) (omega (arith, d .few))));
-  three-bits = λ c values all least most masks small d.
-      let q = askedBy c in
+  three-bits = λ q values all least most masks small d.
       refused q values all masks small (d .every)
       (demand-3 .three-bits q values all (omega arith) (omega arith) (wordsOf masks)
       (on-words q values all masks small (d .every) 3 (d .some) (omega (arith, d .few))));

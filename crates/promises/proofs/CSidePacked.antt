@@ -17,7 +17,7 @@ use Rattle.judging.proofs.Accepted.{values-fit}
 use Rattle.judging.proofs.Bounds.{place-most}
 use Rattle.judging.proofs.SmallBytes.{carriedByte, small-byte}
 use Rattle.c_reader.specs.ReadBytes.{readingOn, ReadBytesDone}
-use Rattle.promises.specs.CSide.{askedBy, Parts, PackedAs}
+use Rattle.promises.specs.CSide.{Parts, PackedAs}
 use Rattle.promises.specs.CSidePacked.{CSidePacked}
 use Rattle.promises.proofs.Rows.{carried}
 
@@ -76,7 +76,6 @@ packed-as q line before after r done =
 
 pub c-side-packed : CSidePacked
 unfolding readingOn
-c-side-packed c line before after r done values left reading room read =
-    let q = askedBy c in
+c-side-packed q line before after r done values left reading room read =
     let same : readingOn q line before ≡ reading = sym (read .says ∙ ap (judgeOf q (lineOn line)) room) in
     (subst (PackedAs r) same (packed-as q line before after r done), λ why is. carried q (lineOn line) (length before / 2) why (same ∙ is))

@@ -8,6 +8,8 @@ use native.Mathlib.Omega.{arith}
 use lib.Dec.{eqb, leb}
 use lib.ListN.{length}
 use borrow.Author.Tests.{leb-true, leb-false, eqb-true, eqb-false}
+use Rattle.characters.specs.Nibble.{isNibble}
+use Rattle.character_check.specs.Check.{isCharacter}
 use Rattle.lines.specs.Line.{bytesOf}
 use Rattle.scanning.specs.Place.{firstNoCharacter, firstNoNibble}
 use Rattle.scanning.specs.Frame.{framed}
@@ -30,7 +32,7 @@ use Rattle.contents.specs.InOrder.{byteRows}
 use Rattle.contents.proofs.RowLaws.{taken-zero}
 use Rattle.judging.specs.Judge.{givenAt, screenRows, rowsOf, judgeOf}
 use Rattle.promises.specs.ByNumber.{NumberDue}
-use Rattle.promises.specs.Rows.{countIn, readRows, Carried}
+use Rattle.promises.specs.Rows.{checkIn, countIn, readRows, Lowest, Carried}
 use Rattle.promises.proofs.ByNumber.{Alike, asks, looks, first-given}
 use Rattle.promises.proofs.ByNumber.Alike.{end, next}
 use Rattle.promises.proofs.RowsGiven as given
@@ -70,16 +72,29 @@ module _ (q : asked.Question) (line : List ℕ) (lent : ℕ) where
 
   -- ---- what a refusal carries
 
+  abbrev CarriedBy : Refusal → Type 0
+  CarriedBy Question = Unit
+  CarriedBy Room = Unit
+  CarriedBy Length = Unit
+  CarriedBy (Character i) = Lowest isCharacter line 0 i
+  CarriedBy Frame = Unit
+  CarriedBy (Manchester i) = Lowest isNibble line 1 i
+  CarriedBy Echo = Unit
+  CarriedBy Pec = Unit
+  CarriedBy Alive = Unit
+  CarriedBy (Check b) = b ≡ checkIn q (bytesOf line)
+  CarriedBy (Count b) = b ≡ countIn (bytesOf line)
+
   Told : Screened → Type 0
   Told Passed = Unit
-  Told (Faulty why) = Carried q line why
+  Told (Faulty why) = CarriedBy why
 
-  unless : (why : Refusal) (t : Bool) → (t ≡ false → Carried q line why) → Told (givenUnless why t)
+  unless : (why : Refusal) (t : Bool) → (t ≡ false → CarriedBy why) → Told (givenUnless why t)
   unfolding Told
   unless why true tells = tt
   unless why false tells = tells refl
 
-  at : (why : ℕ → Refusal) (p : Place) → ((i : ℕ) → p ≡ At i → Carried q line (why i)) → Told (givenAt why p)
+  at : (why : ℕ → Refusal) (p : Place) → ((i : ℕ) → p ≡ At i → CarriedBy (why i)) → Told (givenAt why p)
   unfolding Told
   at why (At i) tells = tells i refl
   at why Nowhere tells = tt
@@ -102,8 +117,15 @@ module _ (q : asked.Question) (line : List ℕ) (lent : ℕ) where
 
   pub carried : (why : Refusal) → judgeOf q line lent ≡ Refused why → Carried q line why
   unfolding judgeOf Told
-  carried why e = by-screened (firstFault (rowsOf q line lent)) (first-of-each Told tt (rowsOf q line lent) told) e
+  carried why e =
+      let tells = by-screened (firstFault (rowsOf q line lent)) (first-of-each Told tt (rowsOf q line lent) told) e in
+      record {
+        character = λ i is. subst CarriedBy is tells;
+        manchester = λ i is. subst CarriedBy is tells;
+        check = λ b is. subst CarriedBy is tells;
+        count = λ b is. subst CarriedBy is tells;
+      }
     where
-      by-screened : (s : Screened) → Told s → said s (takenOf q (bytesOf line)) ≡ Refused why → Carried q line why
+      by-screened : (s : Screened) → Told s → said s (takenOf q (bytesOf line)) ≡ Refused why → CarriedBy why
       by-screened Passed tells e = absurd (no-row-is-zero why (sym (ap numberOf e) ∙ taken-number))
-      by-screened (Faulty other) tells e = let same : other ≡ why = cc in subst (Carried q line) same tells
+      by-screened (Faulty other) tells e = let same : other ≡ why = cc in subst CarriedBy same tells

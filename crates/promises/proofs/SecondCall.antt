@@ -22,7 +22,7 @@ use Rattle.parts.proofs.Part.{no-part, not-put-to, starts, part-there, inside}
 use Rattle.acceptance.specs.Part.{partValue}
 use Rattle.acceptance.proofs.SecondCall.{part-has-four, second-call-agrees}
 use Rattle.c_parts.specs.PartBytes.{packedStart, partIn}
-use Rattle.promises.specs.CSide.{askedBy, upperHalf}
+use Rattle.promises.specs.CSide.{upperHalf}
 use Rattle.promises.specs.SecondCall.{StartsAt, SecondCall}
 
 module _ (q : Question) (line before after : List ℕ) (r : Reading) (done : ReadDone q line before after r) where
@@ -67,14 +67,13 @@ second-call = record {
   not-covered = λ q line a out part is. is ∙ sym (not-put-to q line a out);
   nothing-taken = λ q line before after r done fits none a part is.
       is ∙ sym (no-part q line a (same-found q line before after r done fits ∙ none));
-  in-bytes = λ c line before after reading done some a covered r is.
-      let q = askedBy c in
+  in-bytes = λ q line before after reading done some a covered r is.
       let words = lineOn line in
       let there = inside q words a (found q words before after reading done some) covered in
       let packed : r ≡ 4 + 65536 * startOf q words a = is ∙ packed-some (startOf q words a) (omega (arith, there .start)) in
       let upper : startOf q words a ≡ upperHalf r = omega (arith, packed) in
       (omega (arith, packed), subst (StartsAt q a (valuesTaken reading)) upper (place q words before after reading done some a covered));
-  none-in-bytes = λ c line part a r is says none.
+  none-in-bytes = λ q line part a r is says none.
       says
       ∙ ⊎-elim (λ zero. ap packedStart zero) (λ some. absurd (not-empty _ (lineOn line) a some (sym is ∙ none))) (eq-zero-or-pos _);
 }

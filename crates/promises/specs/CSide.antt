@@ -1,29 +1,11 @@
--- THE C SIDE (document 01, "The C side"): the question that a program passes to `bmc_read` and `bmc_command`, and the parts of the one number
--- that it gets back.
+-- THE C SIDE (document 01, "The C side"): the parts of the one number that a program gets back. Its question is that of the seven numbers that it
+-- passes, as each export's own line says (`asking`).
 use mathlib.Core.Path.{_≡_}
-use Prim.Native.Nat.{ℕ, _/_, _%_, _<_}
-use Rattle.questions.specs.Question.{asking}
-use Rattle.questions.specs.declared.question.Question.{Question}
+use Prim.Native.Nat.{ℕ, _/_, _%_}
 use Rattle.readings.specs.declared.Refusal.the-variants as row
 use Rattle.readings.specs.declared.Reading.{Reading}
 use Rattle.readings.specs.declared.Reading.the-variants.{Counted, Written, Values, Refused}
 use Rattle.promises.specs.Demand1.{packedNumber}
-
--- the seven numbers: the register is a byte and the value has 16 bits, as every program passes them
-pub record Numbers : Type 0 where
-  pub kind : ℕ
-  pub n : ℕ
-  pub alive : ℕ
-  pub reg : ℕ
-  pub value : ℕ
-  pub device : ℕ
-  pub seed : ℕ
-  pub byte : reg < 256
-  pub word : value < 65536
-
--- their question
-abbrev pub askedBy : Numbers → Question
-askedBy c = asking (c .kind) (c .n) (c .alive) (c .reg) (c .value) (c .device) (c .seed)
 
 -- bits 16 to 31 of an answer
 abbrev pub upperHalf : ℕ → ℕ

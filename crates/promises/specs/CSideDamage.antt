@@ -13,7 +13,7 @@ use Rattle.questions.specs.declared.question.Question.{Question}
 use Rattle.c_reader.specs.ReadBytes.{ReadBytesDone}
 use Rattle.promises.specs.Demand1.{TurnedAway, packedNumber}
 use Rattle.promises.specs.Demand3.{ReadsAll, answerLine, Damage}
-use Rattle.promises.specs.CSide.{Numbers, askedBy, upperHalf}
+use Rattle.promises.specs.CSide.{upperHalf}
 
 -- the bytes of the table's answer
 abbrev pub answerInBytes : Question → (values : List ℕ) → List ℕ
@@ -23,14 +23,14 @@ answerInBytes q values = asBytes (answerLine q values)
 -- output stays as it was
 abbrev pub BytesDetected : (least most bits : ℕ) → Type 0
 BytesDetected least most bits =
-    (c : Numbers) (values : List ℕ) → ReadsAll (askedBy c) values → least ≤ c .n → c .n ≤ most
-    → (masks : List ℕ) → Bytes masks → Damage (answerInBytes (askedBy c) values) masks bits
-    → (before after : List ℕ) (r : ℕ) → ReadBytesDone (askedBy c) (turned (answerInBytes (askedBy c) values) masks) before after r
+    (q : Question) (values : List ℕ) → ReadsAll q values → least ≤ q .n → q .n ≤ most
+    → (masks : List ℕ) → Bytes masks → Damage (answerInBytes q values) masks bits
+    → (before after : List ℕ) (r : ℕ) → ReadBytesDone q (turned (answerInBytes q values) masks) before after r
     → TurnedAway (packedNumber r) × (after ≡ before)
 
 pub record CSideDamage : Type 0 where
-  pub undamaged : (c : Numbers) (values : List ℕ) → ReadsAll (askedBy c) values
-      → (before after : List ℕ) (r : ℕ) → 2 * c .n ≤ length before → ReadBytesDone (askedBy c) (answerInBytes (askedBy c) values) before after r
-      → (packedNumber r ≡ 0) × (upperHalf r ≡ c .n) × (after ≡ atFront (asBytes values) before)
+  pub undamaged : (q : Question) (values : List ℕ) → ReadsAll q values
+      → (before after : List ℕ) (r : ℕ) → 2 * q .n ≤ length before → ReadBytesDone q (answerInBytes q values) before after r
+      → (packedNumber r ≡ 0) × (upperHalf r ≡ q .n) × (after ≡ atFront (asBytes values) before)
   pub five-bits : BytesDetected 1 14 5
   pub three-bits : BytesDetected 15 32 3

@@ -15,7 +15,7 @@ use Rattle.questions.specs.Question.{helloAll, writeAll, writeDevice, readAll, 
 use Rattle.questions.specs.Shape.{shapeOf}
 use Rattle.questions.specs.declared.question.Question as asked
 use Rattle.readings.specs.declared.Refusal.{Refusal}
-use Rattle.readings.specs.declared.Refusal.the-variants.{Question, Room, Length, Character, Frame, Manchester, Echo, Pec, Alive, Check, Count}
+use Rattle.readings.specs.declared.Refusal.the-variants.{Character, Manchester, Check, Count}
 use Rattle.contents.specs.Rows.{byteIn}
 use Rattle.promises.specs.ByNumber.{Row, row}
 
@@ -92,15 +92,8 @@ pub record Lowest (check : ℕ → Bool) (line : List ℕ) (ends i : ℕ) : Type
   pub lower-pass : (j : ℕ) → ends ≤ j → j < i → check (getD line j 0) ≡ true
 
 -- what a refusal carries: CHARACTER and MANCHESTER "with the lowest such place", CHECK and COUNT "with the byte"
-abbrev pub Carried : asked.Question → (line : List ℕ) → Refusal → Type 0
-Carried q line Question = Unit
-Carried q line Room = Unit
-Carried q line Length = Unit
-Carried q line (Character i) = Lowest isCharacter line 0 i
-Carried q line Frame = Unit
-Carried q line (Manchester i) = Lowest isNibble line 1 i
-Carried q line Echo = Unit
-Carried q line Pec = Unit
-Carried q line Alive = Unit
-Carried q line (Check b) = b ≡ checkIn q (bytesOf line)
-Carried q line (Count b) = b ≡ countIn (bytesOf line)
+pub record Carried (q : asked.Question) (line : List ℕ) (why : Refusal) : Type 0 where
+  pub character : (i : ℕ) → why ≡ Character i → Lowest isCharacter line 0 i
+  pub manchester : (i : ℕ) → why ≡ Manchester i → Lowest isNibble line 1 i
+  pub check : (b : ℕ) → why ≡ Check b → b ≡ checkIn q (bytesOf line)
+  pub count : (b : ℕ) → why ≡ Count b → b ≡ countIn (bytesOf line)

@@ -18,7 +18,7 @@ use Rattle.parts.specs.Part.{orderOf, partOf}
 use Rattle.acceptance.specs.Part.{partValue}
 use Rattle.c_parts.specs.PartBytes.{partIn}
 use Rattle.promises.specs.Demand1.{packedNumber, Returns}
-use Rattle.promises.specs.CSide.{Numbers, askedBy, upperHalf}
+use Rattle.promises.specs.CSide.{upperHalf}
 
 -- where the characters of a device's value start, of so many values on the line: behind the preamble and the two first bytes, which are five
 -- characters, and the values of the devices above it, four characters each
@@ -42,9 +42,9 @@ pub record SecondCall : Type 0 where
   pub nothing-taken : (q : Question) (line before after : List ℕ) (r : Reading) → ReadDone q line before after r
       → shapeOf q .values ≤ length before → valuesTaken r ≡ 0 → (a : ℕ) (part : List ℕ) → Returns (partOf q line a) part → part ≡ []
   -- C's call, beside `read` on the words of the line: four words from the place in bits 16 to 31;
-  pub in-bytes : (c : Numbers) (line before after : List ℕ) (reading : Reading) → ReadDone (askedBy c) (lineOn line) before after reading
-      → 1 ≤ valuesTaken reading → (a : ℕ) → covers (askedBy c) a ≡ true → (r : ℕ) → Returns (partIn (askedBy c) a line) r
-      → (packedNumber r ≡ 4) × StartsAt (askedBy c) a (valuesTaken reading) (upperHalf r)
+  pub in-bytes : (q : Question) (line before after : List ℕ) (reading : Reading) → ReadDone q (lineOn line) before after reading
+      → 1 ≤ valuesTaken reading → (a : ℕ) → covers q a ≡ true → (r : ℕ) → Returns (partIn q a line) r
+      → (packedNumber r ≡ 4) × StartsAt q a (valuesTaken reading) (upperHalf r)
   -- and 0 where there is no part
-  pub none-in-bytes : (c : Numbers) (line part : List ℕ) (a r : ℕ) → Returns (partOf (askedBy c) (lineOn line) a) part
-      → Returns (partIn (askedBy c) a line) r → part ≡ [] → r ≡ 0
+  pub none-in-bytes : (q : Question) (line part : List ℕ) (a r : ℕ) → Returns (partOf q (lineOn line) a) part
+      → Returns (partIn q a line) r → part ≡ [] → r ≡ 0
