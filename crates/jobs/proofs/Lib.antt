@@ -2,6 +2,7 @@ pub mod Sizes
 pub mod Walk
 mod EachEntry
 mod GoodEntry
+mod Keeps
 pub mod Entries
 pub mod Placed
 pub mod OneEntry

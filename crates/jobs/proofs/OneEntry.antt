@@ -16,9 +16,10 @@ use Rattle.packing.proofs.Back.{length-bytes, words-back, bytes-back, words-wid
 use Rattle.jobs.specs.declared.Header.{Header}
 use Rattle.jobs.specs.Format.{Entry, fieldSize, entryBytes}
 use Rattle.jobs.specs.Rules.{keepsRules}
-use Rattle.jobs.specs.Encoded.{Fits}
+use Rattle.jobs.specs.Encoded.{Fits, Keeps}
 use Rattle.jobs.specs.Check.{wordsIn, sizeIn, entryIn, goodEntry}
 use Rattle.jobs.proofs.GoodEntry.{words-number, good}
+use Rattle.jobs.proofs.Keeps.{keeps-passes, passes-keeps}
 
 -- ---- an entry's bytes, and others behind them
 
@@ -48,12 +49,12 @@ module _ (e : Entry) (fits : Fits e) (rest : List ℕ) where
   rest-back = drop-at (entryBytes e) rest (sizeIn bytes) (sym entry-size)
 
   -- an entry that keeps the rules is good
-  pub entry-good : (h : Header) → keepsRules h e ≡ true → goodEntry h bytes ≡ true
+  pub entry-good : (h : Header) → Keeps h e → goodEntry h bytes ≡ true
   unfolding goodEntry
   entry-good h rules =
       let size = length-append (entryBytes e) rest in
       ap₂ (λ (t u : Bool). t && u && keepsRules h (entryIn bytes)) (le-leb fieldSize (length bytes) (omega (arith, entry-size, size))) (le-leb (sizeIn bytes) (length bytes) (omega (arith, entry-size, size)))
-      ∙ ap (keepsRules h) entry-back ∙ rules
+      ∙ ap (keepsRules h) entry-back ∙ keeps-passes h e rules
 
 -- ---- what is read, written again
 
@@ -108,9 +109,9 @@ module _ (front : List ℕ) (small : Bytes front) (whole : sizeIn front ≤ leng
 -- A GOOD ENTRY IS AN ENCODING, of the entry that is read off it, with the rest behind
 pub record Written (h : Header) (front : List ℕ) : Type 0 where
   pub fits : Fits (entryIn front)
-  pub rules : keepsRules h (entryIn front) ≡ true
+  pub rules : Keeps h (entryIn front)
   pub again : entryBytes (entryIn front) ++ drop (sizeIn front) front ≡ front
 
 pub good-is-written : (h : Header) (front : List ℕ) → Bytes front → goodEntry h front ≡ true → Written h front
 good-is-written h front small ok =
-    let is = good h front ok in record { fits = entry-fits front small (is .whole); rules = is .rules; again = entry-again front small (is .whole) }
+    let is = good h front ok in record { fits = entry-fits front small (is .whole); rules = passes-keeps h (entryIn front) (is .rules); again = entry-again front small (is .whole) }

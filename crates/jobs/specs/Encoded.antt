@@ -1,12 +1,14 @@
 -- A job file as an encoding: a header and entries that keep the rules, and their bytes.
 use mathlib.Core.Path.{_≡_}
 use mathlib.Core.Bool.{true}
+use mathlib.Core.Logic.{_⊎_}
 use mathlib.Core.List.{List, [], _∷_}
 use Prim.Native.Nat.{ℕ, _≤_, _<_}
 use lib.ListN.{length, getD}
+use Rattle.questions.specs.Question.{helloAll, writeDevice, readAll, readDevice}
 use Rattle.jobs.specs.declared.Header.{Header}
 use Rattle.jobs.specs.Format.{Entry, fileBytes}
-use Rattle.jobs.specs.Rules.{goodHeader, keepsRules}
+use Rattle.jobs.specs.Rules.{goodHeader}
 
 -- each field fits its bytes
 pub record Fits (e : Entry) : Type 0 where
@@ -17,10 +19,20 @@ pub record Fits (e : Entry) : Type 0 where
   pub value : e .value < 65536
   pub words : (i : ℕ) → getD (e .words) i 0 < 65536
 
+-- and keeps the rules: no more than 140 words, no kind above 4, and a field that its kind does not use is 0, the seed too where alive is off, and for
+-- HELLOALL
+pub record Keeps (h : Header) (e : Entry) : Type 0 where
+  pub words : length (e .words) ≤ 140
+  pub kind : e .kind ≤ 4
+  pub register : e .kind ≡ helloAll → e .reg ≡ 0
+  pub value : (e .kind ≡ helloAll) ⊎ (readAll ≤ e .kind) → e .value ≡ 0
+  pub device : (e .kind ≡ writeDevice → ⊥) → (e .kind ≡ readDevice → ⊥) → e .device ≡ 0
+  pub seed : (e .kind ≡ helloAll) ⊎ (h .alive ≡ 1 → ⊥) → e .seed ≡ 0
+
 -- all of them fit, and keep the rules
 pub data AllKeep (h : Header) : List Entry → Type 0 where
   none : AllKeep h []
-  more : (e : Entry) (es : List Entry) → Fits e → keepsRules h e ≡ true → AllKeep h es → AllKeep h (e ∷ es)
+  more : (e : Entry) (es : List Entry) → Fits e → Keeps h e → AllKeep h es → AllKeep h (e ∷ es)
 
 -- the file is the encoding of this header and these entries
 pub record Encodes (h : Header) (es : List Entry) (file : List ℕ) : Type 0 where

@@ -16,12 +16,11 @@ use Rattle.readings.specs.Reading.{numberOf}
 use Rattle.judging.specs.Judge.{judgeOf}
 use Rattle.jobs.specs.declared.Header.{Header}
 use Rattle.jobs.specs.Format.{Entry, headSize, entryBytes, asked}
-use Rattle.jobs.specs.Rules.{keepsRules}
 use Rattle.jobs.specs.declared.Cursor.{Cursor}
 use Rattle.jobs.specs.declared.Opened.the-variants as opened
 use Rattle.jobs.specs.declared.Next.the-variants as next
 use Rattle.jobs.specs.Check.{headerIn, sizeIn, entryIn, entriesIn, goodEntry, goodFile, placedIn, openedOf, openedNumber, nextIn, nextOf, nextNumber}
-use Rattle.jobs.specs.Encoded.{Fits, Encodes}
+use Rattle.jobs.specs.Encoded.{Fits, Keeps, Encodes}
 use Rattle.jobs.proofs.Sizes.{head-length}
 use Rattle.jobs.proofs.OneEntry.{entry-back, entry-good, good-is-written, drop-bytes}
 use Rattle.jobs.proofs.GoodFile.{header-read, entries-read, encoded-is-good, good-is-encoded}
@@ -86,7 +85,7 @@ next-by-number h file c small = by-rest (drop (c .at) file) (drop-bytes (c .at) 
 
 -- ---- an entry heard
 
-pub listened-by-number : (h : Header) (e : Entry) (later : List ℕ) (s : Standing) → Fits e → keepsRules h e ≡ true
+pub listened-by-number : (h : Header) (e : Entry) (later : List ℕ) (s : Standing) → Fits e → Keeps h e
     → NumberDue (readRows (asked h e) (e .words) 32) (listenOf h (entryBytes e ++ later) s .number)
 unfolding listenOf
 listened-by-number h e later s fits rules = subst (NumberDue (readRows (asked h e) (e .words) 32)) (sym heard) (by-number (asked h e) (e .words) 32)

@@ -10,8 +10,7 @@ use Rattle.commands.specs.Command.{commandLine}
 use Rattle.cells.specs.Cell.{enabled}
 use Rattle.jobs.specs.declared.Header.{Header}
 use Rattle.jobs.specs.Format.{Entry, headSize, entryBytes}
-use Rattle.jobs.specs.Rules.{keepsRules}
-use Rattle.jobs.specs.Encoded.{Fits, Encodes}
+use Rattle.jobs.specs.Encoded.{Fits, Keeps, Encodes}
 use Rattle.printing.specs.Print.{mostEntries}
 use Rattle.rehearsal.specs.Rehearsal.{answeredSize}
 use Rattle.promises.specs.ByNumber.{Row, row}
@@ -58,7 +57,7 @@ NoJobFile file = (h : Header) (es : List Entry) → Encodes h es file → ⊥
 
 -- and of the bytes from a cursor on: they begin with the encoding of no entry that keeps the rules
 abbrev pub NoEntry : Header → (rest : List ℕ) → Type 0
-NoEntry h rest = (e : Entry) (later : List ℕ) → Fits e → keepsRules h e ≡ true → rest ≡ entryBytes e ++ later → ⊥
+NoEntry h rest = (e : Entry) (later : List ℕ) → Fits e → Keeps h e → rest ≡ entryBytes e ++ later → ⊥
 
 -- a file opened; an entry taken out, where something stands (behind the last entry is no refusal)
 abbrev pub openRows : (file : List ℕ) → List Row

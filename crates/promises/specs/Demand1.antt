@@ -30,8 +30,7 @@ use Rattle.twin.specs.Step.{StepDone, SpanDone, ChainDone, steppedNumber}
 use Rattle.jobs.specs.declared.Header.{Header}
 use Rattle.jobs.specs.declared.Cursor.{Cursor}
 use Rattle.jobs.specs.Format.{Entry, entryBytes, asked}
-use Rattle.jobs.specs.Rules.{keepsRules}
-use Rattle.jobs.specs.Encoded.{Fits}
+use Rattle.jobs.specs.Encoded.{Fits, Keeps}
 use Rattle.jobs.specs.Check.{openedOf, openedNumber, nextOf, nextNumber}
 use Rattle.letters.specs.declared.Standing.{Standing}
 use Rattle.listening.specs.declared.Listened.{Listened}
@@ -127,7 +126,7 @@ pub record Demand1 : Type 0 where
   pub open-file : (file : List ℕ) → Bytes file → Replies (openRows file) openedNumber (Returns (openedOf file))
   pub next-entry : (h : Header) (file : List ℕ) (c : Cursor) → Bytes file → Replies (nextRows h (drop (c .at) file)) nextNumber (Returns (nextOf h file c))
   -- (heard by the reader's own rows, with room for the values of 32 devices, where the bytes begin with an entry that keeps the rules; else FILE)
-  pub listen : (h : Header) (e : Entry) (later : List ℕ) (s : Standing) → Fits e → keepsRules h e ≡ true
+  pub listen : (h : Header) (e : Entry) (later : List ℕ) (s : Standing) → Fits e → Keeps h e
       → Replies (readRows (asked h e) (e .words) 32) (λ (r : Listened). r .number) (Returns (listenOf h (entryBytes e ++ later) s))
   pub listen-file : (h : Header) (front : List ℕ) (s : Standing) → Bytes front → NoEntry h front
       → Replies (row 14 (NoEntry h front) ∷ []) (λ (r : Listened). r .number) (Returns (listenOf h front s))

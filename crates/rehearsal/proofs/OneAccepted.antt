@@ -1,14 +1,11 @@
 -- One question sent through a chain: the reader accepts its answer, with what the registers held; the chain is a chain still; and the entry with
 -- its answer fits and keeps the rules of a job file.
-use mathlib.Core.Path.{_≡_, refl, sym, ap, ap₂, subst, _∙_}
-use mathlib.Core.Bool.{Bool, true, false, _&&_}
+use mathlib.Core.Path.{_≡_, refl, sym, ap, subst, _∙_}
+use mathlib.Core.Bool.{Bool, true, false}
 use mathlib.Core.List.{List, _∷_}
 use Prim.Native.Nat.{ℕ, _*_, _≤_, _<_}
 use native.Mathlib.Omega.{arith}
-use lib.Dec.{leb}
 use lib.ListN.{length, getD}
-use borrow.Author.Tests.{le-leb}
-use Rattle.ground.proofs.Test.{and-left, and-right}
 use Rattle.lines.proofs.Line.{line-wide}
 use Rattle.questions.specs.Question.{goodQuestion}
 use Rattle.questions.specs.Bytes.{answerBytes}
@@ -25,8 +22,7 @@ use Rattle.roundtrip.proofs.RoundTrip.{right-answer}
 use Rattle.roundtrip.proofs.RegistersAfter.{held-after, still-registers}
 use Rattle.jobs.specs.declared.Header.{Header}
 use Rattle.jobs.specs.Format.{Entry, asked}
-use Rattle.jobs.specs.Rules.{unusedAreZero, keepsRules}
-use Rattle.jobs.specs.Encoded.{Fits}
+use Rattle.jobs.specs.Encoded.{Fits, Keeps}
 use Rattle.rehearsal.specs.Rehearsal.{sent, withWords}
 use Rattle.rehearsal.specs.Accepted.{AcceptedFrom, FromChain}
 use Rattle.rehearsal.specs.Accepted.FromChain.{good as answered-good, bad as not-sent}
@@ -100,14 +96,15 @@ module _ (h : Header) (e : Entry) (fits : Fits e) (memory : List ℕ) (c : Chain
     words = wide-either (goodQuestion q) refl;
   }
 
-  pub answered-keeps : keepsRules h e ≡ true → keepsRules h (withWords e (sent n memory q .line)) ≡ true
-  unfolding keepsRules
-  answered-keeps rules =
-      let number = answer-length q n memory in
-      let few = le-leb (length (sent n memory q .line)) 140 (omega (arith, number, few-words q)) in
-      let kind = and-right (leb (length (e .words)) 140) (leb (e .kind) 4) (and-left _ (unusedAreZero q) rules) in
-      let unused = and-right (leb (length (e .words)) 140 && leb (e .kind) 4) (unusedAreZero q) rules in
-      ap (λ (t : Bool). t && leb (e .kind) 4 && unusedAreZero q) few ∙ ap₂ (λ (t u : Bool). t && u) kind unused
+  pub answered-keeps : Keeps h e → Keeps h (withWords e (sent n memory q .line))
+  answered-keeps rules = record {
+    words = omega (arith, answer-length q n memory, few-words q);
+    kind = rules .kind;
+    register = rules .register;
+    value = rules .value;
+    device = rules .device;
+    seed = rules .seed;
+  }
 
   -- with what follows it
   pub one-from-chain : (es : List Entry) → FromChain h (sent n memory q .memory) es → FromChain h memory (withWords e (sent n memory q .line) ∷ es)
