@@ -1,95 +1,84 @@
--- A step on bytes: memory and line unpacked, one device stepped, both packed again; a line longer than any command as it came; and where the
--- step is turned away nothing changes.
-use mathlib.Core.Path.{_≡_, sym, ap, ap₂, subst, _∙_}
-use mathlib.Core.Bool.{Bool, true, _&&_}
+-- Devices stepped on bytes: the line unpacked, the devices one after the other on it, the line packed again; a line longer than any command as it
+-- came; and where the call is turned away nothing changes.
+use mathlib.Core.Path.{_≡_, refl, sym, ap, subst, _∙_}
+use mathlib.Core.Bool.{Bool, true, false, cond, _&&_}
 use mathlib.Core.List.{List, _++_}
-use Prim.Native.Nat.{ℕ, _*_, _/_, _%_, _≤_, _<_}
+use Prim.Native.Nat.{ℕ, zero, suc, _+_, _*_, _/_, _%_, _≤_, _<_}
 use native.Mathlib.Omega.{arith}
-use lib.Dec.{ltb}
+use lib.Dec.{leb, ltb}
 use lib.ListN.{length, take, drop}
-use lib.Seq.{sets, take-at}
-use borrow.Author.Tests.{lt-ltb}
+use lib.Seq.{sets, take-at, length-take-le}
+use borrow.Author.Tests.{lt-ltb, le-ltb}
 use Rattle.ground.proofs.Lists.{sets-front}
 use Rattle.remainder.specs.Turned.{Bytes}
 use Rattle.lines.specs.Write.{atFront}
 use Rattle.lines.proofs.LeftBy.{left-written, left-as-it-was}
 use Rattle.packing.specs.Words.{wordsOf, asBytes, lineOn, lineIn, LineTaken}
-use Rattle.packing.proofs.Taken.{even-line, whole-line, packed-front}
+use Rattle.packing.proofs.Taken.{even-line, whole-line, line-front, packed-front}
 use Rattle.packing.proofs.Back.{length-words, bytes-back}
-use Rattle.registers.specs.Memory.{isChain}
-use Rattle.twin.specs.Step.{Chain, chainWith, hop, StepDone}
-use Rattle.twin.specs.declared.step.Stepped.{Stepped}
-use Rattle.twin.proofs.Stepping.{leaves-line, leaves-memory, hop-length, hop-long}
-use Rattle.c_twin.specs.TwinBytes.{chainIn, stepNumber, stepped, HoppedBytes, StepBytesDone}
-use Rattle.c_twin.proofs.Bytes.{chain-bytes, chain-most, chain-words, front-words, packed-whole}
+use Rattle.twin.specs.Step.{Chain, chainWith, hop, hopsFrom}
+use Rattle.twin.proofs.Span.{none-of-span, next-of-span}
+use Rattle.twin.proofs.Stepping.{hops-length, hop-long}
+use Rattle.c_twin.specs.TwinBytes.{chainIn, chainOn, bytesNumber, BytesDone, StepBytesDone, HoppedBytes, InPlace}
+use Rattle.c_twin.proofs.Bytes.{chain-bytes}
 
--- ---- one device stepped
+-- ---- devices stepped
 
 module _ (line blank : List ℕ) (even : length line % 2 ≡ 0) (short : length line ≤ 280) (size : length blank ≡ 140) where
-  is-line : lineIn (length blank) line ≡ wordsOf line
-  is-line = whole-line (length blank) line (omega (arith, ap length (even-line line even), length-words line)) ∙ even-line line even
+  is-line : lineIn (length blank) line ≡ lineOn line
+  is-line = whole-line (length blank) line (omega (arith, ap length (even-line line even), length-words line))
 
   module _ (words : List ℕ) (count : ℕ) (taken : LineTaken line blank words count) where
     pub line-count : count ≡ length line / 2
-    line-count = taken .counts ∙ ap length is-line ∙ length-words line
+    line-count = taken .counts ∙ ap length (is-line ∙ even-line line even) ∙ length-words line
 
-    line-words : take count words ≡ wordsOf line
-    line-words =
-        ap (take count) (taken .leaves ∙ ap (sets blank 0) is-line)
-        ∙ front-words blank line count (omega (arith, line-count, length-words line)) (omega (arith, line-count))
+    line-words : take count words ≡ lineOn line
+    line-words = line-front line blank words count taken ∙ is-line
 
-module _ (n k : ℕ) (memory line out : List ℕ) (chain : chainIn n (length memory) ≡ true) (device : k < n) (even : length line % 2 ≡ 0)
-    (short : length line ≤ 280) (room : length line ≤ length out) (blank blank-line handed : List ℕ) (size : length blank ≡ 8192)
-    (line-size : length blank-line ≡ 140) (handed-size : length handed ≡ 140) where
-  number : length (wordsOf memory) ≡ 256 * n
-  number = omega (arith, length-words memory, chain-bytes n (length memory) chain)
-
-  pub stepped-on : (registers registers′ words handed′ memory′ out′ : List ℕ) (count : ℕ) (r : Stepped) → registers ≡ sets blank 0 (wordsOf memory)
-      → LineTaken line blank-line words count → StepDone n k (take (256 * n) registers) registers′ (take count words) handed handed′ r
-      → length registers′ ≡ length (take (256 * n) registers)
-      → memory′ ≡ sets memory 0 (asBytes (take (length memory / 2) (take (256 * n) (registers′ ++ drop (256 * n) registers))))
-      → out′ ≡ sets out 0 (asBytes (take (length out / 2) (take count handed′))) → HoppedBytes n k memory memory′ line out out′
-  stepped-on registers registers′ words handed′ memory′ out′ count r unpacked taken done kept stored-memory stored-out =
-      let start = chainWith (wordsOf memory) (wordsOf line) in
-      let end : hop n k start ≡ stepped n k memory line = ap (λ (l : List ℕ). hop n k (chainWith (wordsOf memory) l)) (sym (even-line line even)) in
-      let holds : take (256 * n) registers ≡ wordsOf memory =
-      ap (take (256 * n)) unpacked ∙ front-words blank memory (256 * n) number (omega (arith, chain-most n (length memory) chain)) in
-      let is : take count words ≡ wordsOf line = line-words line blank-line even short line-size words count taken in
-      let counts : count ≡ length line / 2 = line-count line blank-line even short line-size words count taken in
-      let done′ : StepDone n k (wordsOf memory) registers′ (wordsOf line) handed handed′ r =
-      subst (λ (l : List ℕ). StepDone n k (wordsOf memory) registers′ l handed handed′ r) is
-      (subst (λ (m : List ℕ). StepDone n k m registers′ (take count words) handed handed′ r) holds done) in
-      let fits : (isChain n (length (wordsOf memory)) && ltb k n) ≡ true =
-      ap₂ (λ (t u : Bool). t && u) (chain-words n (length memory) chain (length (wordsOf memory)) number) (lt-ltb k n device) in
-      let enough : length (wordsOf line) ≤ length handed = omega (arith, length-words line) in
-      let long : length registers′ ≡ 256 * n = kept ∙ ap length holds ∙ number in
-      let same : length (hop n k start .line) ≡ length (wordsOf line) = hop-length n k start in
-      record {
-        remembers =
-            stored-memory
-            ∙ ap (λ (l : List ℕ). sets memory 0 (asBytes (take (length memory / 2) l))) (take-at registers′ (drop (256 * n) registers) (256 * n) long)
-            ∙ packed-whole registers′ memory (omega (arith, long, chain-bytes n (length memory) chain))
-            ∙ ap asBytes (leaves-memory start (hop n k start) handed handed′ registers′ r _ done′ fits enough)
-            ∙ ap (λ (s : Chain). asBytes (s .memory)) end;
-        leaves =
-            stored-out
-            ∙ ap (λ (l : List ℕ). sets out 0 (asBytes (take (length out / 2) l)))
-            (ap (take count) (leaves-line start (hop n k start) handed handed′ registers′ r _ done′ fits enough)
-            ∙ take-at (hop n k start .line) (drop (length (hop n k start .line)) handed) count (omega (arith, same, counts, length-words line)))
-            ∙ packed-front (hop n k start .line) out (omega (arith, same, length-words line))
-            ∙ ap (λ (s : Chain). atFront (asBytes (s .line)) out) end;
-      }
+    module _ (n from to : ℕ) (memory out : List ℕ) (chain : chainIn n (length memory) ≡ true) (room : length line ≤ length out)
+        (held : length words ≡ length blank) where
+      pub hopped : (memory′ line′ out′ : List ℕ) → Bytes memory′ → length memory′ ≡ length memory
+          → InPlace (hopsFrom n from to (chainWith (wordsOf memory) (take count words))) memory′ line′
+          → out′ ≡ sets out 0 (asBytes (take (length out / 2) (take count (line′ ++ drop count words))))
+          → HoppedBytes (hopsFrom n from to (chainOn memory line)) memory′ out out′
+      hopped memory′ line′ out′ small kept done stored =
+          let end : hopsFrom n from to (chainWith (wordsOf memory) (take count words)) ≡ hopsFrom n from to (chainOn memory line) =
+          ap (λ (l : List ℕ). hopsFrom n from to (chainWith (wordsOf memory) l)) line-words in
+          let after = hopsFrom n from to (chainOn memory line) in
+          let is : line′ ≡ after .line = done .leaves ∙ ap (λ (s : Chain). s .line) end in
+          let long : length (after .line) ≡ length (take count words) = hops-length n from to (chainOn memory line) ∙ sym (ap length line-words) in
+          let counted : length (take count words) ≡ count = length-take-le count words (omega (arith, line-count)) in
+          record {
+            remembers =
+                sym (bytes-back memory′ (256 * n) (omega (arith, chain-bytes n (length memory) chain)) small)
+                ∙ ap asBytes (done .remembers) ∙ ap (λ (s : Chain). asBytes (s .memory)) end;
+            leaves =
+                stored
+                ∙ ap (λ (l : List ℕ). sets out 0 (asBytes (take (length out / 2) l)))
+                (ap (λ (l : List ℕ). take count (l ++ drop count words)) is ∙ take-at (after .line) (drop count words) count (long ∙ counted))
+                ∙ packed-front (after .line) out (omega (arith, long, counted, line-count));
+          }
 
 -- ---- a line longer than any command
 
-module _ (n k : ℕ) (memory line out : List ℕ) (even : length line % 2 ≡ 0) (long : 280 < length line) where
-  as-it-came : stepped n k memory line ≡ chainWith (wordsOf memory) (wordsOf line)
+either-way : (t : Bool) (s : Chain) → cond t s s ≡ s
+either-way true s = refl
+either-way false s = refl
+
+hops-long : (n from to : ℕ) (s : Chain) → 140 < length (s .line) → hopsFrom n from to s ≡ s
+unfolding hopsFrom
+hops-long n from zero s long = refl
+hops-long n from (suc k) s long =
+    ap (λ (x : Chain). cond (leb from k) x s) (ap (hop n k) (hops-long n from k s long) ∙ hop-long n k s long) ∙ either-way (leb from k) s
+
+module _ (n from to : ℕ) (memory line out : List ℕ) (even : length line % 2 ≡ 0) (long : 280 < length line) where
+  as-it-came : hopsFrom n from to (chainOn memory line) ≡ chainWith (wordsOf memory) (wordsOf line)
   as-it-came =
-      let came : Chain = chainWith (wordsOf memory) (lineOn line) in
-      hop-long n k came (omega (arith, ap length (even-line line even), length-words line)) ∙ ap (chainWith (wordsOf memory)) (even-line line even)
+      hops-long n from to (chainOn memory line) (omega (arith, ap length (even-line line even), length-words line))
+      ∙ ap (chainWith (wordsOf memory)) (even-line line even)
 
   pub passed-on : (out′ : List ℕ) → chainIn n (length memory) ≡ true → length line ≤ length out → Bytes memory → Bytes line → out′ ≡ sets out 0 line
-      → HoppedBytes n k memory memory line out out′
+      → HoppedBytes (hopsFrom n from to (chainOn memory line)) memory out out′
   passed-on out′ chain room memory-bytes line-bytes stored = record {
     remembers = sym (ap (λ (s : Chain). asBytes (s .memory)) as-it-came ∙ bytes-back memory (256 * n) (omega (arith, chain-bytes n (length memory) chain)) memory-bytes);
     leaves =
@@ -100,21 +89,49 @@ module _ (n k : ℕ) (memory line out : List ℕ) (even : length line % 2 ≡ 0)
 
 -- ---- which number
 
-module _ (n k : ℕ) (memory line out : List ℕ) where
-  pub turned-away : (number : ℕ) → stepNumber n k memory line out ≡ number → 1 ≤ number → StepBytesDone n k memory memory line out out number
+module _ (fits : Bool) (after : Chain) (memory line out : List ℕ) where
+  pub turned-away : (number : ℕ) → bytesNumber fits line out ≡ number → 1 ≤ number → BytesDone fits after memory memory line out out number
   turned-away number is row =
-      let away : 1 ≤ stepNumber n k memory line out = omega arith in
+      let away : 1 ≤ bytesNumber fits line out = omega arith in
       record {
         says = sym is;
-        remembers = sym (left-as-it-was (asBytes (stepped n k memory line .memory)) memory _ away);
-        leaves = sym (left-as-it-was (atFront (asBytes (stepped n k memory line .line)) out) out _ away);
+        remembers = sym (left-as-it-was (asBytes (after .memory)) memory _ away);
+        leaves = sym (left-as-it-was (atFront (asBytes (after .line)) out) out _ away);
       }
 
-  pub went-on : (memory′ out′ : List ℕ) → stepNumber n k memory line out ≡ 0 → HoppedBytes n k memory memory′ line out out′
-      → StepBytesDone n k memory memory′ line out out′ 0
+  pub went-on : (memory′ out′ : List ℕ) → bytesNumber fits line out ≡ 0 → HoppedBytes after memory′ out out′ → BytesDone fits after memory memory′ line out out′ 0
   went-on memory′ out′ is done =
       record {
         says = sym is;
-        remembers = done .remembers ∙ sym (left-written (asBytes (stepped n k memory line .memory)) memory _ is);
-        leaves = done .leaves ∙ sym (left-written (atFront (asBytes (stepped n k memory line .line)) out) out _ is);
+        remembers = done .remembers ∙ sym (left-written (asBytes (after .memory)) memory _ is);
+        leaves = done .leaves ∙ sym (left-written (atFront (asBytes (after .line)) out) out _ is);
       }
+
+-- ---- one device: a span of one
+
+and-false : (t : Bool) → (t && false) ≡ false
+and-false true = refl
+and-false false = refl
+
+-- beyond the chain it is TWIN
+pub no-device : (n k : ℕ) (memory line out : List ℕ) → n ≤ k → StepBytesDone n k memory memory line out out 15
+unfolding bytesNumber
+no-device n k memory line out beyond =
+    let fits = chainIn n (length memory) && ltb k n in
+    let out-of-it : fits ≡ false = ap (λ (t : Bool). chainIn n (length memory) && t) (le-ltb k n beyond) ∙ and-false (chainIn n (length memory)) in
+    turned-away fits (hop n k (chainOn memory line)) memory line out 15 (ap (λ (t : Bool). bytesNumber t line out) out-of-it) (omega arith)
+
+and-true : (t : Bool) → (t && true) ≡ t
+and-true true = refl
+and-true false = refl
+
+pub as-step : (n k : ℕ) (memory memoryLeft line out outAfter : List ℕ) (r : ℕ) → k < n
+    → BytesDone (chainIn n (length memory)) (hopsFrom n k (k + 1) (chainOn memory line)) memory memoryLeft line out outAfter r
+    → StepBytesDone n k memory memoryLeft line out outAfter r
+as-step n k memory memoryLeft line out outAfter r device done =
+    let s = chainOn memory line in
+    let one : hopsFrom n k (k + 1) s ≡ hop n k s = sym (next-of-span n s k k (omega arith)) ∙ ap (hop n k) (none-of-span n s k) in
+    let fits : chainIn n (length memory) ≡ (chainIn n (length memory) && ltb k n) =
+    sym (ap (λ (t : Bool). chainIn n (length memory) && t) (lt-ltb k n device) ∙ and-true (chainIn n (length memory))) in
+    subst (λ (x : Chain). BytesDone (chainIn n (length memory) && ltb k n) x memory memoryLeft line out outAfter r) one
+    (subst (λ (t : Bool). BytesDone t (hopsFrom n k (k + 1) s) memory memoryLeft line out outAfter r) fits done)

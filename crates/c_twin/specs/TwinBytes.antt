@@ -25,21 +25,30 @@ pub record PowerBytesDone (n : ℕ) (before after : List ℕ) (r : ℕ) : Type 0
   pub leaves : after ≡ leftBy (powerNumber n (length before)) (asBytes (powerOnMemory n)) before
 
 -- the number: TWIN, which alone comes before ROOM; ROOM, the output's whole words against the line's; LENGTH, for an odd number of bytes
-unfoldable pub stepNumber : (n k : ℕ) (memory line out : List ℕ) → ℕ
-stepNumber n k memory line out =
-    cond (chainIn n (length memory) && ltb k n) (cond (leb (length line / 2) (length out / 2)) (cond (eqb (length line % 2) 0) 0 3) 2) 15
+unfoldable pub bytesNumber : (fits : Bool) (line out : List ℕ) → ℕ
+bytesNumber fits line out = cond fits (cond (leb (length line / 2) (length out / 2)) (cond (eqb (length line % 2) 0) 0 3) 2) 15
 
--- the chain after the step, on words: of a line of any length
-abbrev pub stepped : (n k : ℕ) (memory line : List ℕ) → Chain
-stepped n k memory line = hop n k (chainWith (wordsOf memory) (lineOn line))
+-- the chain before a call, on words: with a line of any length
+abbrev pub chainOn : (memory line : List ℕ) → Chain
+chainOn memory line = chainWith (wordsOf memory) (lineOn line)
 
--- what a step leaves that was not turned away
-pub record HoppedBytes (n k : ℕ) (memory memoryLeft line out outAfter : List ℕ) : Type 0 where
-  pub remembers : memoryLeft ≡ asBytes (stepped n k memory line .memory)
-  pub leaves : outAfter ≡ atFront (asBytes (stepped n k memory line .line)) out
+-- a chain, its memory, and devices stepped: what a call says and leaves
+pub record BytesDone (fits : Bool) (after : Chain) (memory memoryLeft line out outAfter : List ℕ) (r : ℕ) : Type 0 where
+  pub says : r ≡ bytesNumber fits line out
+  pub remembers : memoryLeft ≡ leftBy (bytesNumber fits line out) (asBytes (after .memory)) memory
+  pub leaves : outAfter ≡ leftBy (bytesNumber fits line out) (atFront (asBytes (after .line)) out) out
 
--- what `step_bytes` says and leaves
-pub record StepBytesDone (n k : ℕ) (memory memoryLeft line out outAfter : List ℕ) (r : ℕ) : Type 0 where
-  pub says : r ≡ stepNumber n k memory line out
-  pub remembers : memoryLeft ≡ leftBy (stepNumber n k memory line out) (asBytes (stepped n k memory line .memory)) memory
-  pub leaves : outAfter ≡ leftBy (stepNumber n k memory line out) (atFront (asBytes (stepped n k memory line .line)) out) out
+-- `step_bytes`: one device alone, which must be in the chain
+abbrev pub StepBytesDone : (n k : ℕ) (memory memoryLeft line out outAfter : List ℕ) (r : ℕ) → Type 0
+StepBytesDone n k memory memoryLeft line out outAfter r =
+    BytesDone (chainIn n (length memory) && ltb k n) (hop n k (chainOn memory line)) memory memoryLeft line out outAfter r
+
+-- what devices leave that were not turned away
+pub record HoppedBytes (after : Chain) (memoryLeft out outAfter : List ℕ) : Type 0 where
+  pub remembers : memoryLeft ≡ asBytes (after .memory)
+  pub leaves : outAfter ≡ atFront (asBytes (after .line)) out
+
+-- and what they leave in bytes of memory and words of a line, both in place
+pub record InPlace (after : Chain) (memoryLeft lineLeft : List ℕ) : Type 0 where
+  pub remembers : wordsOf memoryLeft ≡ after .memory
+  pub leaves : lineLeft ≡ after .line

@@ -28,9 +28,9 @@ use Rattle.cells.specs.declared.Cell.the-variants as cell
 use Rattle.cells.specs.declared.CellRefusal.the-variants as cell-refusal
 use Rattle.c_cells.specs.CellBytes.{packedCell, answerOf}
 use Rattle.c_cells.specs.CellsBytes.{roomNumber, cellsNumber}
-use Rattle.c_twin.specs.TwinBytes.{chainIn, powerNumber, stepNumber}
+use Rattle.c_twin.specs.TwinBytes.{chainIn, powerNumber, bytesNumber}
 use Rattle.promises.specs.ByNumber.{Row, row, NumberDue}
-use Rattle.promises.specs.CallRows.{room, commandRows, NoChain, NoSpan, powerOnRows, chainRows, stepRows, spanRows, stepBytesRows, cellRows, cellIntoRows, cellsIntoRows}
+use Rattle.promises.specs.CallRows.{room, commandRows, NoChain, NoSpan, powerOnRows, chainRows, stepRows, spanRows, overBytesRows, stepBytesRows, cellRows, cellIntoRows, cellsIntoRows}
 use Rattle.promises.proofs.RowsGiven.{bad-question, good-question}
 
 -- a test cannot have come out both ways
@@ -157,28 +157,29 @@ span-due n from to memory line out =
     stepped-due (NoSpan 256 n from to (length memory)) (isSpan n from to (length memory))
     (is-span-in 256 n (length memory) from to) (is-no-span-in 256 n (length memory) from to) line out
 
+-- and over bytes, then LENGTH
+module _ (given : Type 0) (fits : Bool) (chain : fits ≡ true → given → ⊥) (no-chain : fits ≡ false → given) (line out : List ℕ) where
+  over-bytes-due : NumberDue (overBytesRows given (length out) (length line)) (bytesNumber fits line out)
+  unfolding bytesNumber
+  over-bytes-due = by-tests fits refl (leb (length line / 2) (length out / 2)) refl (eqb (length line % 2) 0) refl
+    where
+      by-tests : (t : Bool) → fits ≡ t → (enough : Bool) → leb (length line / 2) (length out / 2) ≡ enough → (even : Bool) → eqb (length line % 2) 0 ≡ even
+          → NumberDue (overBytesRows given (length out) (length line)) (cond t (cond enough (cond even 0 3) 2) 15)
+      by-tests false is enough e even v = inl (no-chain is, refl)
+      by-tests true is false e even v = inr (chain is, inl (omega (arith, leb-false (length line / 2) (length out / 2) e), refl))
+      by-tests true is true e true v =
+          inr (
+            chain is,
+            inr ((λ short. omega (arith, leb-true (length line / 2) (length out / 2) e)), inr ((λ odd. odd (eqb-true (length line % 2) 0 v)), refl)),
+          )
+      by-tests true is true e false v =
+          inr (chain is, inr ((λ short. omega (arith, leb-true (length line / 2) (length out / 2) e)), inl (eqb-false (length line % 2) 0 v, refl)))
+
 pub step-bytes-due : (n device : ℕ) (memory line out : List ℕ)
-    → NumberDue (stepBytesRows n device (length memory) (length out) (length line)) (stepNumber n device memory line out)
-unfolding stepNumber
+    → NumberDue (stepBytesRows n device (length memory) (length out) (length line)) (bytesNumber (chainIn n (length memory) && ltb device n) line out)
 step-bytes-due n device memory line out =
-    by-tests (chainIn n (length memory) && ltb device n) refl (leb (length line / 2) (length out / 2)) refl (eqb (length line % 2) 0) refl
-  where
-    by-tests : (t : Bool) → (chainIn n (length memory) && ltb device n) ≡ t → (enough : Bool) → leb (length line / 2) (length out / 2) ≡ enough
-        → (even : Bool) → eqb (length line % 2) 0 ≡ even
-        → NumberDue (stepBytesRows n device (length memory) (length out) (length line)) (cond t (cond enough (cond even 0 3) 2) 15)
-    by-tests false is enough e even v = inl (is-not-in-chain 512 n (length memory) device is, refl)
-    by-tests true is false e even v =
-        inr (is-in-chain 512 n (length memory) device is, inl (omega (arith, leb-false (length line / 2) (length out / 2) e), refl))
-    by-tests true is true e true v =
-        inr (
-          is-in-chain 512 n (length memory) device is,
-          inr ((λ short. omega (arith, leb-true (length line / 2) (length out / 2) e)), inr ((λ odd. odd (eqb-true (length line % 2) 0 v)), refl)),
-        )
-    by-tests true is true e false v =
-        inr (
-          is-in-chain 512 n (length memory) device is,
-          inr ((λ short. omega (arith, leb-true (length line / 2) (length out / 2) e)), inl (eqb-false (length line % 2) 0 v, refl)),
-        )
+    over-bytes-due (NoChain 512 n (length memory) ⊎ (n ≤ device)) (chainIn n (length memory) && ltb device n)
+    (is-in-chain 512 n (length memory) device) (is-not-in-chain 512 n (length memory) device) line out
 
 -- ---- cells
 

@@ -1,11 +1,11 @@
 -- Demand 1 is met: a contract names what the call answers and what it leaves, so that these two are the one answer and the one memory; its number
 -- is the one due, law by law; and what is turned away has written nothing.
 use mathlib.Core.Path.{_≡_, refl, sym, ap, _∙_, subst}
-use mathlib.Core.Bool.{Bool, true, false, cond}
+use mathlib.Core.Bool.{Bool, true, false, cond, _&&_}
 use mathlib.Core.List.{List, [], _∷_}
 use Prim.Native.Nat.{ℕ, suc, _+_, _/_, _%_, _<_}
 use native.Mathlib.Omega.{arith}
-use lib.Dec.{leb, lit<}
+use lib.Dec.{leb, ltb, lit<}
 use lib.ListN.{length, getD}
 use Rattle.lines.specs.Line.{lineOf}
 use Rattle.lines.specs.Write.{atFront}
@@ -27,7 +27,7 @@ use Rattle.cells.specs.declared.Cell.{Cell}
 use Rattle.cells.specs.declared.Cell.the-variants.{NotMeasured}
 use Rattle.c_reader.specs.ReadBytes.{readingOn}
 use Rattle.c_commands.specs.CommandBytes.{packedIssued}
-use Rattle.c_twin.specs.TwinBytes.{powerNumber, stepNumber}
+use Rattle.c_twin.specs.TwinBytes.{chainIn, powerNumber, bytesNumber}
 use Rattle.c_cells.specs.CellsBytes.{cellsNumber}
 use Rattle.c_cells.proofs.EachCell.{cells-number, cell-at}
 use Rattle.promises.specs.ByNumber.{Row, NumberDue}
@@ -43,7 +43,7 @@ use Rattle.promises.proofs.JobNumbers.{certified-by-number, certificate
 use Rattle.promises.proofs.RefusedWritesNothing.{refused-read, refused-command, refused-power-on, refused-step}
 use Rattle.promises.proofs.RefusedWritesNothing.{refused-print, refused-certificate, refused-rehearsal}
 use Rattle.promises.proofs.RefusedBytes.{refused-read-bytes, refused-command-bytes, refused-cell, refused-cells}
-use Rattle.promises.proofs.RefusedBytes.{refused-power-bytes, refused-step-bytes, refused-certificate-bytes}
+use Rattle.promises.proofs.RefusedBytes.{refused-power-bytes, refused-steps, refused-certificate-bytes}
 use Rattle.promises.proofs.CSideLine.{number-packed}
 use Rattle.promises.proofs.OwnCell.{own-cell}
 
@@ -179,9 +179,9 @@ demand-1 = record {
       (small-due (powerOnRows 512 n (length memory)) (powerNumber n (length memory)) (lit< tt, tt) (powered-bytes-due n (length memory))) (refused-power-bytes n memory);
   step-bytes = λ n device memory line out.
       one (record { says = refl; remembers = refl; leaves = refl }) (λ after r done. (done .says, both (done .remembers, done .leaves)))
-      (small-due (stepBytesRows n device (length memory) (length out) (length line)) (stepNumber n device memory line out) (lit< tt, (lit< tt, (lit< tt, tt)))
-      (step-bytes-due n device memory line out))
-      (λ after r done away. both (refused-step-bytes n device memory (after .0) line out (after .1) r done away));
+      (small-due (stepBytesRows n device (length memory) (length out) (length line)) (bytesNumber (chainIn n (length memory) && ltb device n) line out)
+      (lit< tt, (lit< tt, (lit< tt, tt))) (step-bytes-due n device memory line out))
+      (λ after r done away. both (refused-steps _ _ memory (after .0) line out (after .1) r done away));
   certificate-bytes = λ file text small.
       one (record { says = refl; leaves = refl }) (λ after r done. (done .says, done .leaves))
       (certificate-bytes-by-number file text _ _ small (record { says = refl; leaves = refl })) (refused-certificate-bytes file text);

@@ -20,6 +20,7 @@ use Rattle.readings.specs.declared.Reading.the-variants.{Counted, Written, Valu
 use Rattle.reader.specs.Read.{valuesOn}
 use Rattle.commands.specs.Command.{commandLine, issuedOf, issuedNumber}
 use Rattle.registers.specs.Memory.{powerOnMemory}
+use Rattle.twin.specs.Step.{Chain}
 use Rattle.certificate.specs.Certificate.{certifiedOf, certifiedNumber}
 use Rattle.certificate.specs.declared.Certified.{Certified}
 use Rattle.certificate.specs.declared.Certified.the-variants as certified
@@ -32,7 +33,7 @@ use Rattle.c_reader.specs.ReadBytes.{readingOn, ReadBytesDone}
 use Rattle.c_commands.specs.CommandBytes.{CommandBytesDone}
 use Rattle.c_cells.specs.CellBytes.{packedCell, microvoltsOr, voltsOr, answerOf, microvoltsLeft, voltsLeft, CellDone}
 use Rattle.c_cells.specs.CellsBytes.{cellsNumber, cellsRead, byCell, packedOr, CellsDone}
-use Rattle.c_twin.specs.TwinBytes.{powerNumber, stepNumber, stepped, PowerBytesDone, StepBytesDone}
+use Rattle.c_twin.specs.TwinBytes.{powerNumber, bytesNumber, PowerBytesDone, BytesDone}
 use Rattle.bmc.specs.Exports.{packedCertified, CertificateBytesDone}
 use Rattle.promises.specs.Demand1.{TurnedAway, packedNumber}
 use Rattle.promises.proofs.RefusedWritesNothing.{refused-certificate}
@@ -92,12 +93,13 @@ pub refused-power-bytes : (n : ℕ) (before after : List ℕ) (r : ℕ) → Powe
 refused-power-bytes n before after r done away =
     done .leaves ∙ left-as-it-was (asBytes (powerOnMemory n)) before (powerNumber n (length before)) (omega (arith, done .says))
 
-pub refused-step-bytes : (n k : ℕ) (memory memoryLeft line out outAfter : List ℕ) (r : ℕ) → StepBytesDone n k memory memoryLeft line out outAfter r
-    → TurnedAway (packedNumber r) → (memoryLeft ≡ memory) × (outAfter ≡ out)
-refused-step-bytes n k memory memoryLeft line out outAfter r done away =
-    let row : 1 ≤ stepNumber n k memory line out = omega (arith, done .says) in (
-      done .remembers ∙ left-as-it-was (asBytes (stepped n k memory line .memory)) memory _ row,
-      done .leaves ∙ left-as-it-was (atFront (asBytes (stepped n k memory line .line)) out) out _ row,
+-- one device, or the whole chain
+pub refused-steps : (fits : Bool) (chain : Chain) (memory memoryLeft line out outAfter : List ℕ) (r : ℕ)
+    → BytesDone fits chain memory memoryLeft line out outAfter r → TurnedAway (packedNumber r) → (memoryLeft ≡ memory) × (outAfter ≡ out)
+refused-steps fits chain memory memoryLeft line out outAfter r done away =
+    let row : 1 ≤ bytesNumber fits line out = omega (arith, done .says) in (
+      done .remembers ∙ left-as-it-was (asBytes (chain .memory)) memory _ row,
+      done .leaves ∙ left-as-it-was (atFront (asBytes (chain .line)) out) out _ row,
     )
 
 pub refused-certificate-bytes : (file before after : List ℕ) (r : ℕ) → CertificateBytesDone file before after r

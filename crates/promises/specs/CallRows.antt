@@ -46,10 +46,12 @@ NoSpan each n from to size = NoChain each n size ⊎ ((to < from) ⊎ (n < to))
 abbrev pub spanRows : (n from to words lent line : ℕ) → List Row
 spanRows n from to words lent line = row 15 (NoSpan 256 n from to words) ∷ room lent line ∷ []
 
--- over bytes: whole words against whole words, then 3 LENGTH for an odd number of bytes
+-- over bytes, whatever TWIN is given for: whole words against whole words, then 3 LENGTH for an odd number of bytes
+abbrev pub overBytesRows : (given : Type 0) (lent line : ℕ) → List Row
+overBytesRows given lent line = row 15 given ∷ room (lent / 2) (line / 2) ∷ row 3 (line % 2 ≡ 0 → ⊥) ∷ []
+
 abbrev pub stepBytesRows : (n device bytes lent line : ℕ) → List Row
-stepBytesRows n device bytes lent line =
-    row 15 (NoChain 512 n bytes ⊎ (n ≤ device)) ∷ room (lent / 2) (line / 2) ∷ row 3 (line % 2 ≡ 0 → ⊥) ∷ []
+stepBytesRows n device bytes lent line = overBytesRows (NoChain 512 n bytes ⊎ (n ≤ device)) lent line
 
 -- 14 FILE: the bytes are the encoding of no header and entries that keep the rules
 abbrev pub NoJobFile : (file : List ℕ) → Type 0
