@@ -10,6 +10,7 @@ use Rattle.bmc.proofs.bmc_cells.Reads as cells
 use Rattle.bmc.proofs.bmc_certificate.Reads as certificate
 use Rattle.bmc.proofs.bmc_twin_power_on.Reads as power-on
 use Rattle.bmc.proofs.bmc_twin_step.Reads as step
+use Rattle.bmc.proofs.bmc_twin_run.Reads as run
 use Rattle.bmc.proofs.bmc_pec.Reads as pec
 
 pub read-settled : Settled read.Post
@@ -68,6 +69,15 @@ step-settled-memory l given r r′ left left′ p q = p .remembers ∙ sym (q .r
 
 pub step-settled-out : SettledIn (λ l left. now (left .1 .1 .1 .1 .0)) step.Post
 step-settled-out l given r r′ left left′ p q = p .leaves ∙ sym (q .leaves)
+
+pub run-settled : Settled run.Post
+run-settled l given r r′ left left′ p q = p .says ∙ sym (q .says)
+
+pub run-settled-memory : SettledIn (λ l left. now (left .1 .0)) run.Post
+run-settled-memory l given r r′ left left′ p q = p .remembers ∙ sym (q .remembers)
+
+pub run-settled-out : SettledIn (λ l left. now (left .1 .1 .1 .0)) run.Post
+run-settled-out l given r r′ left left′ p q = p .leaves ∙ sym (q .leaves)
 
 pub pec-settled : Settled pec.Post
 pec-settled l given r r′ left left′ p q = p ∙ sym q

@@ -6,6 +6,7 @@ use c_commands::command_bytes;
 use c_parts::part_bytes;
 use c_reader::read_bytes;
 use c_twin::power_on_bytes;
+use c_twin::run_bytes;
 use c_twin::step_bytes;
 use certificate::Certified;
 use certificate::certify;
@@ -20,7 +21,7 @@ ghost use Rattle.c_reader.specs.ReadBytes.{ReadBytesDone};
 ghost use Rattle.c_parts.specs.PartBytes.{partIn};
 ghost use Rattle.c_cells.specs.CellBytes.{CellDone};
 ghost use Rattle.c_cells.specs.CellsBytes.{CellsDone};
-ghost use Rattle.c_twin.specs.TwinBytes.{PowerBytesDone, StepBytesDone};
+ghost use Rattle.c_twin.specs.TwinBytes.{PowerBytesDone, StepBytesDone, RunBytesDone};
 ghost use Rattle.certificate.specs.Certificate.{mostText};
 ghost use Rattle.bmc.specs.Exports.{bytesWritten, packedCertified, CertificateBytesDone};
 
@@ -85,6 +86,13 @@ pub extern "C" fn bmc_twin_step(
     ensures { λ r. ⌜ StepBytesDone n device (now (memory .entry)) (now (memory .exit)) (now (line .entry)) (now (out .entry)) (now (out .exit)) r ⌝ }
 {
     step_bytes(n, device, memory, line, out)
+}
+
+#[no_mangle]
+pub extern "C" fn bmc_twin_run(n: u8, memory: &mut [u8], line: &[u8], out: &mut [u8]) -> u32
+    ensures { λ r. ⌜ RunBytesDone n (now (memory .entry)) (now (memory .exit)) (now (line .entry)) (now (out .entry)) (now (out .exit)) r ⌝ }
+{
+    run_bytes(n, memory, line, out)
 }
 
 #[no_mangle]

@@ -4,6 +4,7 @@ use denote.Ref.{now}
 use Rattle.ground.specs.Agree.{Settled, SettledIn}
 use Rattle.c_twin.proofs.power_on_bytes.Reads as power-on-bytes
 use Rattle.c_twin.proofs.step_bytes.Reads as step-bytes
+use Rattle.c_twin.proofs.run_bytes.Reads as run-bytes
 
 pub power-on-bytes-settled : Settled power-on-bytes.Post
 power-on-bytes-settled l given r r′ left left′ p q = p .says ∙ sym (q .says)
@@ -21,3 +22,12 @@ step-bytes-settled-memory l given r r′ left left′ p q = p .remembers ∙ sym
 
 pub step-bytes-settled-out : SettledIn (λ l left. now (left .1 .1 .1 .1 .0)) step-bytes.Post
 step-bytes-settled-out l given r r′ left left′ p q = p .leaves ∙ sym (q .leaves)
+
+pub run-bytes-settled : Settled run-bytes.Post
+run-bytes-settled l given r r′ left left′ p q = p .says ∙ sym (q .says)
+
+pub run-bytes-settled-memory : SettledIn (λ l left. now (left .1 .0)) run-bytes.Post
+run-bytes-settled-memory l given r r′ left left′ p q = p .remembers ∙ sym (q .remembers)
+
+pub run-bytes-settled-out : SettledIn (λ l left. now (left .1 .1 .1 .0)) run-bytes.Post
+run-bytes-settled-out l given r r′ left left′ p q = p .leaves ∙ sym (q .leaves)

@@ -9,7 +9,7 @@ use lib.ListN.{length}
 use Rattle.lines.specs.Write.{atFront, leftBy}
 use Rattle.packing.specs.Words.{wordsOf, asBytes, lineOn}
 use Rattle.registers.specs.Memory.{powerOnMemory}
-use Rattle.twin.specs.Step.{Chain, chainWith, hop}
+use Rattle.twin.specs.Step.{Chain, chainWith, hop, hops}
 
 -- row 15: 1 to 32 devices, and exactly 512 bytes for each
 abbrev pub chainIn : (n bytes : ℕ) → Bool
@@ -42,6 +42,11 @@ pub record BytesDone (fits : Bool) (after : Chain) (memory memoryLeft line out o
 abbrev pub StepBytesDone : (n k : ℕ) (memory memoryLeft line out outAfter : List ℕ) (r : ℕ) → Type 0
 StepBytesDone n k memory memoryLeft line out outAfter r =
     BytesDone (chainIn n (length memory) && ltb k n) (hop n k (chainOn memory line)) memory memoryLeft line out outAfter r
+
+-- `run_bytes`: every device once
+abbrev pub RunBytesDone : (n : ℕ) (memory memoryLeft line out outAfter : List ℕ) (r : ℕ) → Type 0
+RunBytesDone n memory memoryLeft line out outAfter r =
+    BytesDone (chainIn n (length memory)) (hops n n (chainOn memory line)) memory memoryLeft line out outAfter r
 
 -- what devices leave that were not turned away
 pub record HoppedBytes (after : Chain) (memoryLeft out outAfter : List ℕ) : Type 0 where

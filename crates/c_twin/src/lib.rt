@@ -15,7 +15,7 @@ ghost use lib.Seq.{sets};
 ghost use Rattle.packing.specs.Words.{wordsOf, asBytes};
 ghost use Rattle.registers.specs.Memory.{powerOnMemory};
 ghost use Rattle.twin.specs.Step.{withChange, chainWith, hop, hopsFrom};
-ghost use Rattle.c_twin.specs.TwinBytes.{chainIn, chainOn, PowerBytesDone, StepBytesDone, BytesDone, InPlace, HoppedBytes};
+ghost use Rattle.c_twin.specs.TwinBytes.{chainIn, chainOn, PowerBytesDone, StepBytesDone, RunBytesDone, BytesDone, InPlace, HoppedBytes};
 
 // Power-on: the whole memory is filled, or, turned away by row 15, TWIN, left as it was.
 pub fn power_on_bytes(n: u8, memory: &mut [u8]) -> u32
@@ -37,6 +37,13 @@ pub fn step_bytes(n: u8, device: u8, memory: &mut [u8], line: &[u8], out: &mut [
         return 15;
     }
     span_bytes(n, device, device + 1, memory, line, out)
+}
+
+// Every device of the chain once, in address order.
+pub fn run_bytes(n: u8, memory: &mut [u8], line: &[u8], out: &mut [u8]) -> u32
+    ensures { λ r. ⌜ RunBytesDone n (now (memory .entry)) (now (memory .exit)) (now (line .entry)) (now (out .entry)) (now (out .exit)) r ⌝ }
+{
+    span_bytes(n, 0, n, memory, line, out)
 }
 
 // Devices from .. to - 1, once each in address order, with the rows in their order.

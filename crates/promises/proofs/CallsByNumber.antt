@@ -30,7 +30,7 @@ use Rattle.c_cells.specs.CellBytes.{packedCell, answerOf}
 use Rattle.c_cells.specs.CellsBytes.{roomNumber, cellsNumber}
 use Rattle.c_twin.specs.TwinBytes.{chainIn, powerNumber, bytesNumber}
 use Rattle.promises.specs.ByNumber.{Row, row, NumberDue}
-use Rattle.promises.specs.CallRows.{room, commandRows, NoChain, NoSpan, powerOnRows, chainRows, stepRows, spanRows, overBytesRows, stepBytesRows, cellRows, cellIntoRows, cellsIntoRows}
+use Rattle.promises.specs.CallRows.{room, commandRows, NoChain, NoSpan, powerOnRows, chainRows, stepRows, spanRows, overBytesRows, stepBytesRows, runBytesRows, cellRows, cellIntoRows, cellsIntoRows}
 use Rattle.promises.proofs.RowsGiven.{bad-question, good-question}
 
 -- a test cannot have come out both ways
@@ -180,6 +180,11 @@ pub step-bytes-due : (n device : ℕ) (memory line out : List ℕ)
 step-bytes-due n device memory line out =
     over-bytes-due (NoChain 512 n (length memory) ⊎ (n ≤ device)) (chainIn n (length memory) && ltb device n)
     (is-in-chain 512 n (length memory) device) (is-not-in-chain 512 n (length memory) device) line out
+
+pub run-bytes-due : (n : ℕ) (memory line out : List ℕ)
+    → NumberDue (runBytesRows n (length memory) (length out) (length line)) (bytesNumber (chainIn n (length memory)) line out)
+run-bytes-due n memory line out =
+    over-bytes-due (NoChain 512 n (length memory)) (chainIn n (length memory)) (is-chain 512 n (length memory)) (is-no-chain 512 n (length memory)) line out
 
 -- ---- cells
 

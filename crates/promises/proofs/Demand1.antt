@@ -32,12 +32,12 @@ use Rattle.c_cells.specs.CellsBytes.{cellsNumber}
 use Rattle.c_cells.proofs.EachCell.{cells-number, cell-at}
 use Rattle.promises.specs.ByNumber.{Row, NumberDue}
 use Rattle.promises.specs.Rows.{readRows}
-use Rattle.promises.specs.CallRows.{room, commandRows, powerOnRows, stepBytesRows, cellRows, cellsIntoRows}
+use Rattle.promises.specs.CallRows.{room, commandRows, powerOnRows, stepBytesRows, runBytesRows, cellRows, cellsIntoRows}
 use Rattle.promises.specs.Demand1.{TurnedAway, packedNumber, Answers, Demand1}
 use Rattle.promises.proofs.ByNumber.{Small, below-256}
 use Rattle.promises.proofs.Rows.{by-number}
 use Rattle.promises.proofs.CallsByNumber.{enough-room, short-of-room, command-due, powered-due, powered-bytes-due, chain-due, step-due, span-due}
-use Rattle.promises.proofs.CallsByNumber.{step-bytes-due, cell-due, cell-into-due, cells-into-due}
+use Rattle.promises.proofs.CallsByNumber.{step-bytes-due, run-bytes-due, cell-due, cell-into-due, cells-into-due}
 use Rattle.promises.proofs.JobNumbers.{opened-by-number, next-by-number, listened-by-number, nothing-by-number, printed-by-number}
 use Rattle.promises.proofs.JobNumbers.{certified-by-number, certificate-bytes-by-number, rehearsed-by-number}
 use Rattle.promises.proofs.RefusedWritesNothing.{refused-read, refused-command, refused-power-on, refused-step}
@@ -181,6 +181,11 @@ demand-1 = record {
       one (record { says = refl; remembers = refl; leaves = refl }) (λ after r done. (done .says, both (done .remembers, done .leaves)))
       (small-due (stepBytesRows n device (length memory) (length out) (length line)) (bytesNumber (chainIn n (length memory) && ltb device n) line out)
       (lit< tt, (lit< tt, (lit< tt, tt))) (step-bytes-due n device memory line out))
+      (λ after r done away. both (refused-steps _ _ memory (after .0) line out (after .1) r done away));
+  run-bytes = λ n memory line out.
+      one (record { says = refl; remembers = refl; leaves = refl }) (λ after r done. (done .says, both (done .remembers, done .leaves)))
+      (small-due (runBytesRows n (length memory) (length out) (length line)) (bytesNumber (chainIn n (length memory)) line out)
+      (lit< tt, (lit< tt, (lit< tt, tt))) (run-bytes-due n memory line out))
       (λ after r done away. both (refused-steps _ _ memory (after .0) line out (after .1) r done away));
   certificate-bytes = λ file text small.
       one (record { says = refl; leaves = refl }) (λ after r done. (done .says, done .leaves))

@@ -53,6 +53,9 @@ overBytesRows given lent line = row 15 given ∷ room (lent / 2) (line / 2) ∷ 
 abbrev pub stepBytesRows : (n device bytes lent line : ℕ) → List Row
 stepBytesRows n device bytes lent line = overBytesRows (NoChain 512 n bytes ⊎ (n ≤ device)) lent line
 
+abbrev pub runBytesRows : (n bytes lent line : ℕ) → List Row
+runBytesRows n bytes lent line = overBytesRows (NoChain 512 n bytes) lent line
+
 -- 14 FILE: the bytes are the encoding of no header and entries that keep the rules
 abbrev pub NoJobFile : (file : List ℕ) → Type 0
 NoJobFile file = (h : Header) (es : List Entry) → Encodes h es file → ⊥

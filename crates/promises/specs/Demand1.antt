@@ -44,11 +44,11 @@ use Rattle.c_commands.specs.CommandBytes.{CommandBytesDone}
 use Rattle.c_parts.specs.PartBytes.{partIn}
 use Rattle.c_cells.specs.CellBytes.{CellDone}
 use Rattle.c_cells.specs.CellsBytes.{CellsDone}
-use Rattle.c_twin.specs.TwinBytes.{PowerBytesDone, StepBytesDone}
+use Rattle.c_twin.specs.TwinBytes.{PowerBytesDone, StepBytesDone, RunBytesDone}
 use Rattle.bmc.specs.Exports.{CertificateBytesDone}
 use Rattle.promises.specs.ByNumber.{Row, row, NumberDue}
 use Rattle.promises.specs.Rows.{readRows}
-use Rattle.promises.specs.CallRows.{room, commandRows, powerOnRows, chainRows, stepRows, spanRows, stepBytesRows}
+use Rattle.promises.specs.CallRows.{room, commandRows, powerOnRows, chainRows, stepRows, spanRows, stepBytesRows, runBytesRows}
 use Rattle.promises.specs.CallRows.{NoEntry, openRows, nextRows, printRows, certifyRows, rehearseRows}
 use Rattle.promises.specs.CallRows.{cellRows, cellIntoRows, cellsIntoRows}
 
@@ -156,5 +156,8 @@ pub record Demand1 : Type 0 where
   pub step-bytes : (n device : ℕ) (memory line out : List ℕ)
       → Answers {Memory = List ℕ × List ℕ} (stepBytesRows n device (length memory) (length out) (length line)) packedNumber (memory, out)
       (λ after. StepBytesDone n device memory (after .0) line out (after .1))
+  pub run-bytes : (n : ℕ) (memory line out : List ℕ)
+      → Answers {Memory = List ℕ × List ℕ} (runBytesRows n (length memory) (length out) (length line)) packedNumber (memory, out)
+      (λ after. RunBytesDone n memory (after .0) line out (after .1))
   pub certificate-bytes : (file text : List ℕ) → Bytes file
       → Answers (certifyRows file (length text)) packedNumber text (CertificateBytesDone file text)
