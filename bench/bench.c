@@ -35,15 +35,11 @@ static uint8_t text[2][BMC_CERTIFICATE_MOST];
 /* The right answer comes from the library's own twin. */
 static void make_answer(uint8_t kind, uint16_t value, uint8_t *memory, uint8_t *line)
 {
-    uint8_t next[BMC_LINE_MOST_BYTES];
+    uint8_t command[BMC_LINE_MOST_BYTES];
     uint32_t result = bmc_command(kind, DEVICES, 1, REGISTER, value, 0, SEED,
-                                  line, BMC_LINE_MOST_BYTES);
-    size_t bytes = 2 * (size_t)BMC_WRITTEN(result);
-    for (uint8_t device = 0; device < DEVICES; device++) {
-        bmc_twin_step(DEVICES, device, memory, BMC_TWIN_BYTES(DEVICES),
-                      line, bytes, next, sizeof next);
-        memcpy(line, next, bytes);
-    }
+                                  command, sizeof command);
+    bmc_twin_run(DEVICES, memory, BMC_TWIN_BYTES(DEVICES), command,
+                 2 * (size_t)BMC_WRITTEN(result), line, BMC_LINE_MOST_BYTES);
 }
 
 static void add_entry(uint8_t kind, uint16_t value, const uint8_t *line, size_t words)

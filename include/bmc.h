@@ -5,7 +5,9 @@
  * a chain of monitors, and the certificate of a job file. The library keeps no
  * memory of its own between calls, allocates nothing and prints nothing.
  *
- * Built for x86-64 and the System V calling convention.
+ * Built for x86-64, aarch64, riscv64, riscv32imac, cortex-m4 and cortex-m0, each
+ * by its C calling convention. This header is the same for all of them, in C
+ * from C89 on (with <stdint.h>) and in C++.
  *
  * WORDS AND BYTES. A word of a line, a register's value and a register of the
  * twin's memory are two bytes each, low byte first, at any alignment. Lengths
@@ -13,11 +15,33 @@
  * 0. An output of an odd number of bytes has room for the whole words in it: its
  * last byte counts for no room and stays as it is.
  *
- * REFUSALS. A result carries a number in its lowest byte (only bmc_part's and
- * bmc_pec's do not, which never refuse): 0 when the call was accepted, else the
- * number of the first check that failed, in the order given at each call. A
- * refused call changes no byte of lent memory. What an accepted call does not
- * write stays as it is. Bits of a result that are not mentioned are 0.
+ * REFUSALS. Every call that can refuse carries a number in the lowest byte of
+ * its result: 0 when it was accepted, else the number of the first check that
+ * failed, in the order given at each call. Two calls refuse nothing and carry no
+ * number: bmc_part, whose lowest byte is a count of words, and bmc_pec, whose
+ * lowest byte is the PEC. A refused call changes no byte of lent memory. What an
+ * accepted call does not write stays as it is. Bits of a result that are not
+ * mentioned are 0.
+ *
+ * THREADS AND INTERRUPTS. There is no state: any number of calls may run at once,
+ * on any threads and in interrupts, each on memory of its own; memory that a call
+ * only reads may be shared. Every call ends by itself and calls nothing but
+ * memcpy, memset and the helpers of the compiler that links it.
+ *
+ * STACK. No call takes more than this, on any of these processors, beside what
+ * memcpy, memset and the helpers take:
+ *   bmc_cell                                                   100 bytes
+ *   bmc_command                                                200 bytes
+ *   bmc_cells                                                  500 bytes
+ *   bmc_pec                                                   1500 bytes
+ *   bmc_read, bmc_part                                        2400 bytes
+ *   bmc_twin_power_on, bmc_twin_step, bmc_twin_run            3000 bytes
+ *   bmc_certificate                                          10700 bytes
+ * Beside it stands the memory that is lent: a twin of n devices has 512 * n
+ * bytes, a job file up to 65,536 and its text up to 82,143. So bmc_certificate,
+ * and the twin of a long chain, are for processors with that much memory; the
+ * others ask for a line, 280 bytes, and its values, 64. A program that leaves
+ * calls out leaves their code out too, if it is linked with --gc-sections.
  *
  * WHAT THE CALLER OWES, in every call:
  *  - each pointer is valid for the length beside it, for reading where it is
@@ -33,6 +57,48 @@
 
 #include <stddef.h>
 #include <stdint.h>
+
+/* The version of this header and its archive. The second number rises with new
+ * calls; the first would, should an old call ever lose its meaning. */
+#define BMC_VERSION_MAJOR 1
+#define BMC_VERSION_MINOR 1
+#define BMC_VERSION_PATCH 0
+#define BMC_VERSION \
+    (10000 * BMC_VERSION_MAJOR + 100 * BMC_VERSION_MINOR + BMC_VERSION_PATCH)
+#define BMC_VERSION_TEXT "1.1.0"
+
+/* What C89, later C and C++ say differently. */
+#ifdef __cplusplus
+#define BMC_INLINE static inline
+#define BMC_AS(type, value) (static_cast<type>(value))
+#elif defined(__STDC_VERSION__) && __STDC_VERSION__ >= 199901L
+#define BMC_INLINE static inline
+#define BMC_AS(type, value) ((type)(value))
+#else
+#define BMC_INLINE static __inline__
+#define BMC_AS(type, value) ((type)(value))
+#endif
+
+/*
+ * LENGTHS. The library counts lengths in 64 bits on every processor. Where size_t
+ * has 64 bits, each call below is the archive's own. Where it has 32, the archive
+ * has each call under another name, with lengths of 64 bits, and each call below is
+ * inline and hands its lengths on widened (at the end of this header). A
+ * declaration written by hand, with size_t, does not link there; it would have got
+ * wrong answers.
+ */
+#if defined(__SIZEOF_SIZE_T__)
+#define BMC_LENGTH_BYTES __SIZEOF_SIZE_T__
+#elif SIZE_MAX > 0xFFFFFFFFu
+#define BMC_LENGTH_BYTES 8
+#else
+#define BMC_LENGTH_BYTES 4
+#endif
+#if BMC_LENGTH_BYTES == 8
+#define BMC_CALL
+#else
+#define BMC_CALL BMC_INLINE
+#endif
 
 #ifdef __cplusplus
 extern "C" {
@@ -79,8 +145,17 @@ enum {
 #define BMC_CELLS 12
 #define BMC_CELLS_BYTES (2 * BMC_CELLS)
 
+/* Where the data sheet has the cells: the register of cell c, 1 to 12; the
+ * register whose bits 0 to 11 enable cells 1 to 12 (what bmc_cell and bmc_cells
+ * take as enabled); and the register with the bit that is 1 in the bipolar range
+ * (what they take as bipolar). */
+#define BMC_REGISTER_CELL(c) BMC_AS(uint8_t, 0x1F + (c))
+#define BMC_REGISTER_MEASUREEN 0x12
+#define BMC_REGISTER_SCANCTRL 0x13
+#define BMC_SCANCTRL_POLARITY 0x0080
+
 /* The twin's memory for a chain of n devices. */
-#define BMC_TWIN_BYTES(n) ((size_t)512 * (n))
+#define BMC_TWIN_BYTES(n) (BMC_AS(size_t, 512) * (n))
 
 /* The longest job file, and memory that holds the text of every certificate. */
 #define BMC_FILE_MOST_BYTES 65536
@@ -88,27 +163,27 @@ enum {
 
 /* Every result but bmc_part's and bmc_pec's, and each answer of bmc_cells: the
  * number. */
-#define BMC_NUMBER(result) ((uint8_t)((result) & 0xFFu))
+#define BMC_NUMBER(result) BMC_AS(uint8_t, (result) & 0xFFu)
 
 /* bmc_read: the byte of CHECK and COUNT, the count of an accepted HELLOALL. */
-#define BMC_BYTE(result) ((uint8_t)((result) >> 8 & 0xFFu))
+#define BMC_BYTE(result) BMC_AS(uint8_t, (result) >> 8 & 0xFFu)
 
 /* bmc_read: the place of CHARACTER and MANCHESTER. */
-#define BMC_PLACE(result) ((uint16_t)((result) >> 16 & 0xFFFFu))
+#define BMC_PLACE(result) BMC_AS(uint16_t, (result) >> 16 & 0xFFFFu)
 
 /* bmc_read, bmc_command, when accepted: the values or words written. */
-#define BMC_WRITTEN(result) ((uint16_t)((result) >> 16 & 0xFFFFu))
+#define BMC_WRITTEN(result) BMC_AS(uint16_t, (result) >> 16 & 0xFFFFu)
 
 /* bmc_part: how many words the part has, and the place of its first. */
-#define BMC_PART_WORDS(result) ((uint8_t)((result) & 0xFFu))
-#define BMC_PART_PLACE(result) ((uint16_t)((result) >> 16 & 0xFFFFu))
+#define BMC_PART_WORDS(result) BMC_AS(uint8_t, (result) & 0xFFu)
+#define BMC_PART_PLACE(result) BMC_AS(uint16_t, (result) >> 16 & 0xFFFFu)
 
 /* bmc_cell, and each answer of bmc_cells: 1 when the cell was measured and its
  * microvolts and volts were written. */
-#define BMC_MEASURED(result) ((uint8_t)((result) >> 8 & 0xFFu))
+#define BMC_MEASURED(result) BMC_AS(uint8_t, (result) >> 8 & 0xFFu)
 
 /* bmc_certificate: the bytes of text written. */
-#define BMC_TEXT_BYTES(result) ((uint32_t)(result) >> 8)
+#define BMC_TEXT_BYTES(result) (BMC_AS(uint32_t, result) >> 8)
 
 /*
  * A QUESTION is seven numbers: the kind, the number n of devices in the chain,
@@ -155,10 +230,10 @@ enum {
  * count on the line, whatever n is. HELLOALL and writes write nothing and
  * BMC_WRITTEN is 0.
  */
-uint32_t bmc_read(uint8_t kind, uint8_t n, uint8_t alive, uint8_t reg,
-                  uint16_t value, uint8_t device, uint8_t seed,
-                  const uint8_t *line, size_t line_bytes,
-                  uint8_t *out, size_t out_bytes);
+BMC_CALL uint32_t bmc_read(uint8_t kind, uint8_t n, uint8_t alive, uint8_t reg,
+                           uint16_t value, uint8_t device, uint8_t seed,
+                           const uint8_t *line, size_t line_bytes,
+                           uint8_t *out, size_t out_bytes);
 
 /*
  * Writes the command of a question. In this order:
@@ -168,9 +243,9 @@ uint32_t bmc_read(uint8_t kind, uint8_t n, uint8_t alive, uint8_t reg,
  * Accepted: the command's words stand at the front of out and BMC_WRITTEN is
  * how many.
  */
-uint32_t bmc_command(uint8_t kind, uint8_t n, uint8_t alive, uint8_t reg,
-                     uint16_t value, uint8_t device, uint8_t seed,
-                     uint8_t *out, size_t out_bytes);
+BMC_CALL uint32_t bmc_command(uint8_t kind, uint8_t n, uint8_t alive, uint8_t reg,
+                              uint16_t value, uint8_t device, uint8_t seed,
+                              uint8_t *out, size_t out_bytes);
 
 /*
  * Where a named device's register stands in an answer. Never refuses. When
@@ -182,9 +257,9 @@ uint32_t bmc_command(uint8_t kind, uint8_t n, uint8_t alive, uint8_t reg,
  * every other case, an odd line_bytes among them, the part is empty and the
  * result is 0.
  */
-uint32_t bmc_part(uint8_t kind, uint8_t n, uint8_t alive, uint8_t reg,
-                  uint16_t value, uint8_t device, uint8_t seed, uint8_t named,
-                  const uint8_t *line, size_t line_bytes);
+BMC_CALL uint32_t bmc_part(uint8_t kind, uint8_t n, uint8_t alive, uint8_t reg,
+                           uint16_t value, uint8_t device, uint8_t seed, uint8_t named,
+                           const uint8_t *line, size_t line_bytes);
 
 /*
  * A cell's voltage from its register. The measurement m is the register divided
@@ -201,8 +276,8 @@ uint32_t bmc_part(uint8_t kind, uint8_t n, uint8_t alive, uint8_t reg,
  * The caller owes microvolts and volts valid, aligned for their types and
  * apart from each other, also where they will not be written.
  */
-uint32_t bmc_cell(uint8_t cell, uint16_t enabled, uint16_t reg, uint8_t bipolar,
-                  int32_t *microvolts, float *volts);
+BMC_CALL uint32_t bmc_cell(uint8_t cell, uint16_t enabled, uint16_t reg,
+                           uint8_t bipolar, int32_t *microvolts, float *volts);
 
 /*
  * The twelve cells of one measurement, from their registers: two bytes each, low
@@ -223,11 +298,11 @@ uint32_t bmc_cell(uint8_t cell, uint16_t enabled, uint16_t reg, uint8_t bipolar,
  * written.
  * The caller owes microvolts, volts and answers aligned for their types.
  */
-uint32_t bmc_cells(uint16_t enabled, uint8_t bipolar,
-                   const uint8_t *registers, size_t register_bytes,
-                   int32_t *microvolts, size_t microvolts_count,
-                   float *volts, size_t volts_count,
-                   uint32_t *answers, size_t answers_count);
+BMC_CALL uint32_t bmc_cells(uint16_t enabled, uint8_t bipolar,
+                            const uint8_t *registers, size_t register_bytes,
+                            int32_t *microvolts, size_t microvolts_count,
+                            float *volts, size_t volts_count,
+                            uint32_t *answers, size_t answers_count);
 
 /*
  * The certificate of a job file, as text; no zero byte closes it. A job file is
@@ -248,8 +323,8 @@ uint32_t bmc_cells(uint16_t enabled, uint8_t bipolar,
  * the write that covers the device gave the value written or another, and U
  * where there is no such read. For FILE nothing is written.
  */
-uint32_t bmc_certificate(const uint8_t *file, size_t file_bytes,
-                         uint8_t *text, size_t text_bytes);
+BMC_CALL uint32_t bmc_certificate(const uint8_t *file, size_t file_bytes,
+                                  uint8_t *text, size_t text_bytes);
 
 /*
  * Fills a twin's memory with the registers after power-on. Device k's register
@@ -259,7 +334,8 @@ uint32_t bmc_certificate(const uint8_t *file, size_t file_bytes,
  * 0Ah 0F0Fh, 10h 0002h, 1Eh 000Ch, 40h, 42h and 48h FFFCh, 4Ah FFF0h; every
  * other register is 0000h.
  */
-uint32_t bmc_twin_power_on(uint8_t n, uint8_t *memory, size_t memory_bytes);
+BMC_CALL uint32_t bmc_twin_power_on(uint8_t n,
+                                    uint8_t *memory, size_t memory_bytes);
 
 /*
  * One device of the twin takes a line and hands on a line of equal length. In
@@ -281,16 +357,244 @@ uint32_t bmc_twin_power_on(uint8_t n, uint8_t *memory, size_t memory_bytes);
  * the line.
  * line, out and memory lie apart.
  */
-uint32_t bmc_twin_step(uint8_t n, uint8_t device,
-                       uint8_t *memory, size_t memory_bytes,
-                       const uint8_t *line, size_t line_bytes,
-                       uint8_t *out, size_t out_bytes);
+BMC_CALL uint32_t bmc_twin_step(uint8_t n, uint8_t device,
+                                uint8_t *memory, size_t memory_bytes,
+                                const uint8_t *line, size_t line_bytes,
+                                uint8_t *out, size_t out_bytes);
+
+/*
+ * The whole chain in one call: bmc_twin_step of device 0, 1, .. n-1, each on the
+ * line that the one before handed on. In this order:
+ *   TWIN    n is not 1..32, or memory_bytes is not exactly 512 * n;
+ *   ROOM    out has fewer whole words than the line;
+ *   LENGTH  line_bytes is odd.
+ * Accepted: the line as the last device hands it on stands at the front of out,
+ * and memory is as the devices have left it. For a command of bmc_command to this
+ * chain that line is its right answer. Refused, no device was stepped.
+ * line, out and memory lie apart.
+ */
+BMC_CALL uint32_t bmc_twin_run(uint8_t n, uint8_t *memory, size_t memory_bytes,
+                               const uint8_t *line, size_t line_bytes,
+                               uint8_t *out, size_t out_bytes);
 
 /*
  * The PEC of some bytes, 0..255, every byte in its turn from 0; of no bytes 0.
  * It refuses nothing and writes nothing.
  */
-uint32_t bmc_pec(const uint8_t *bytes, size_t byte_count);
+BMC_CALL uint32_t bmc_pec(const uint8_t *bytes, size_t byte_count);
+
+/*
+ * A question as a struct, with its fields by name, so that no two of them can be
+ * exchanged unseen:
+ *     bmc_question q = { 0 };
+ *     q.kind = BMC_READALL; q.n = 3; q.reg = BMC_REGISTER_CELL(1);
+ * and the three calls that take one: bmc_command, bmc_read and bmc_part with the
+ * question's fields in their places.
+ */
+typedef struct bmc_question {
+    uint8_t kind;
+    uint8_t n;
+    uint8_t alive;
+    uint8_t reg;
+    uint16_t value;
+    uint8_t device;
+    uint8_t seed;
+} bmc_question;
+
+BMC_INLINE uint32_t bmc_question_command(const bmc_question *q,
+                                         uint8_t *out, size_t out_bytes)
+{
+    return bmc_command(q->kind, q->n, q->alive, q->reg, q->value, q->device,
+                       q->seed, out, out_bytes);
+}
+
+BMC_INLINE uint32_t bmc_question_read(const bmc_question *q,
+                                      const uint8_t *line, size_t line_bytes,
+                                      uint8_t *out, size_t out_bytes)
+{
+    return bmc_read(q->kind, q->n, q->alive, q->reg, q->value, q->device,
+                    q->seed, line, line_bytes, out, out_bytes);
+}
+
+BMC_INLINE uint32_t bmc_question_part(const bmc_question *q, uint8_t named,
+                                      const uint8_t *line, size_t line_bytes)
+{
+    return bmc_part(q->kind, q->n, q->alive, q->reg, q->value, q->device,
+                    q->seed, named, line, line_bytes);
+}
+
+/* Word k of some bytes, and word k put among them: a line's word at place k, the
+ * value of device k of a READALL, register r of the twin's device d with k
+ * 256 * d + r. */
+BMC_INLINE uint16_t bmc_word_get(const uint8_t *bytes, size_t k)
+{
+    return BMC_AS(uint16_t, bytes[2 * k] | bytes[2 * k + 1] << 8);
+}
+
+BMC_INLINE void bmc_word_put(uint8_t *bytes, size_t k, uint16_t word)
+{
+    bytes[2 * k] = BMC_AS(uint8_t, word & 0xFFu);
+    bytes[2 * k + 1] = BMC_AS(uint8_t, word >> 8);
+}
+
+/* The name of a number of "Turned away", and of a kind; "?" for any other. */
+BMC_INLINE const char *bmc_number_name(uint8_t number)
+{
+    switch (number) {
+    case BMC_ACCEPTED: return "ACCEPTED";
+    case BMC_QUESTION: return "QUESTION";
+    case BMC_ROOM: return "ROOM";
+    case BMC_LENGTH: return "LENGTH";
+    case BMC_CHARACTER: return "CHARACTER";
+    case BMC_FRAME: return "FRAME";
+    case BMC_MANCHESTER: return "MANCHESTER";
+    case BMC_ECHO: return "ECHO";
+    case BMC_PEC: return "PEC";
+    case BMC_ALIVE: return "ALIVE";
+    case BMC_CHECK: return "CHECK";
+    case BMC_COUNT: return "COUNT";
+    case BMC_CHANNEL: return "CHANNEL";
+    case BMC_LOW_BITS: return "LOW BITS";
+    case BMC_FILE: return "FILE";
+    case BMC_TWIN: return "TWIN";
+    default: return "?";
+    }
+}
+
+BMC_INLINE const char *bmc_kind_name(uint8_t kind)
+{
+    switch (kind) {
+    case BMC_HELLOALL: return "HELLOALL";
+    case BMC_WRITEALL: return "WRITEALL";
+    case BMC_WRITEDEVICE: return "WRITEDEVICE";
+    case BMC_READALL: return "READALL";
+    case BMC_READDEVICE: return "READDEVICE";
+    default: return "?";
+    }
+}
+
+/* Where size_t has 32 bits: the archive's own calls, and each call above by them. */
+#if BMC_LENGTH_BYTES != 8
+
+uint32_t bmc64_read(uint8_t kind, uint8_t n, uint8_t alive, uint8_t reg,
+                    uint16_t value, uint8_t device, uint8_t seed,
+                    const uint8_t *line, uint64_t line_bytes, uint8_t *out,
+                    uint64_t out_bytes);
+
+BMC_INLINE uint32_t bmc_read(uint8_t kind, uint8_t n, uint8_t alive,
+                             uint8_t reg, uint16_t value, uint8_t device,
+                             uint8_t seed, const uint8_t *line,
+                             size_t line_bytes, uint8_t *out, size_t out_bytes)
+{
+    return bmc64_read(kind, n, alive, reg, value, device, seed, line,
+                      line_bytes, out, out_bytes);
+}
+
+uint32_t bmc64_command(uint8_t kind, uint8_t n, uint8_t alive, uint8_t reg,
+                       uint16_t value, uint8_t device, uint8_t seed,
+                       uint8_t *out, uint64_t out_bytes);
+
+BMC_INLINE uint32_t bmc_command(uint8_t kind, uint8_t n, uint8_t alive,
+                                uint8_t reg, uint16_t value, uint8_t device,
+                                uint8_t seed, uint8_t *out, size_t out_bytes)
+{
+    return bmc64_command(kind, n, alive, reg, value, device, seed, out,
+                         out_bytes);
+}
+
+uint32_t bmc64_part(uint8_t kind, uint8_t n, uint8_t alive, uint8_t reg,
+                    uint16_t value, uint8_t device, uint8_t seed,
+                    uint8_t named, const uint8_t *line, uint64_t line_bytes);
+
+BMC_INLINE uint32_t bmc_part(uint8_t kind, uint8_t n, uint8_t alive,
+                             uint8_t reg, uint16_t value, uint8_t device,
+                             uint8_t seed, uint8_t named, const uint8_t *line,
+                             size_t line_bytes)
+{
+    return bmc64_part(kind, n, alive, reg, value, device, seed, named, line,
+                      line_bytes);
+}
+
+uint32_t bmc64_cell(uint8_t cell, uint16_t enabled, uint16_t reg,
+                    uint8_t bipolar, int32_t *microvolts, float *volts);
+
+BMC_INLINE uint32_t bmc_cell(uint8_t cell, uint16_t enabled, uint16_t reg,
+                             uint8_t bipolar, int32_t *microvolts,
+                             float *volts)
+{
+    return bmc64_cell(cell, enabled, reg, bipolar, microvolts, volts);
+}
+
+uint32_t bmc64_cells(uint16_t enabled, uint8_t bipolar,
+                     const uint8_t *registers, uint64_t register_bytes,
+                     int32_t *microvolts, uint64_t microvolts_count,
+                     float *volts, uint64_t volts_count, uint32_t *answers,
+                     uint64_t answers_count);
+
+BMC_INLINE uint32_t bmc_cells(uint16_t enabled, uint8_t bipolar,
+                              const uint8_t *registers, size_t register_bytes,
+                              int32_t *microvolts, size_t microvolts_count,
+                              float *volts, size_t volts_count,
+                              uint32_t *answers, size_t answers_count)
+{
+    return bmc64_cells(enabled, bipolar, registers, register_bytes, microvolts,
+                       microvolts_count, volts, volts_count, answers,
+                       answers_count);
+}
+
+uint32_t bmc64_certificate(const uint8_t *file, uint64_t file_bytes,
+                           uint8_t *text, uint64_t text_bytes);
+
+BMC_INLINE uint32_t bmc_certificate(const uint8_t *file, size_t file_bytes,
+                                    uint8_t *text, size_t text_bytes)
+{
+    return bmc64_certificate(file, file_bytes, text, text_bytes);
+}
+
+uint32_t bmc64_twin_power_on(uint8_t n, uint8_t *memory,
+                             uint64_t memory_bytes);
+
+BMC_INLINE uint32_t bmc_twin_power_on(uint8_t n, uint8_t *memory,
+                                      size_t memory_bytes)
+{
+    return bmc64_twin_power_on(n, memory, memory_bytes);
+}
+
+uint32_t bmc64_twin_step(uint8_t n, uint8_t device, uint8_t *memory,
+                         uint64_t memory_bytes, const uint8_t *line,
+                         uint64_t line_bytes, uint8_t *out,
+                         uint64_t out_bytes);
+
+BMC_INLINE uint32_t bmc_twin_step(uint8_t n, uint8_t device, uint8_t *memory,
+                                  size_t memory_bytes, const uint8_t *line,
+                                  size_t line_bytes, uint8_t *out,
+                                  size_t out_bytes)
+{
+    return bmc64_twin_step(n, device, memory, memory_bytes, line, line_bytes,
+                           out, out_bytes);
+}
+
+uint32_t bmc64_twin_run(uint8_t n, uint8_t *memory, uint64_t memory_bytes,
+                        const uint8_t *line, uint64_t line_bytes, uint8_t *out,
+                        uint64_t out_bytes);
+
+BMC_INLINE uint32_t bmc_twin_run(uint8_t n, uint8_t *memory,
+                                 size_t memory_bytes, const uint8_t *line,
+                                 size_t line_bytes, uint8_t *out,
+                                 size_t out_bytes)
+{
+    return bmc64_twin_run(n, memory, memory_bytes, line, line_bytes, out,
+                          out_bytes);
+}
+
+uint32_t bmc64_pec(const uint8_t *bytes, uint64_t byte_count);
+
+BMC_INLINE uint32_t bmc_pec(const uint8_t *bytes, size_t byte_count)
+{
+    return bmc64_pec(bytes, byte_count);
+}
+
+#endif
 
 #ifdef __cplusplus
 }

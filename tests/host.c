@@ -1,10 +1,10 @@
 /*
  * host.c: compares the library with the reference, call by call.
  *
- *     host [seed] [--quick] [-v]
+ *     host [seed] [--share N] [-v]
  *
- * The seed determines every trial; without one a fixed seed is taken. --quick
- * tries about a seventh. -v prints how long each part took. The run ends at the
+ * The seed determines every trial; without one a fixed seed is taken. --share N
+ * tries about one in N. -v prints how long each part took. The run ends at the
  * first difference with the input, both answers, the seed and status 1; else
  * with the line 'host: N inputs compared, 0 differences' and status 0.
  */
@@ -46,36 +46,46 @@ static void run_part(size_t i)
 
 static void usage(void)
 {
-    fprintf(stderr, "usage: host [seed] [--quick] [-v]\n");
+    fprintf(stderr, "usage: host [seed] [--share N] [-v]\n");
     exit(2);
 }
 
-static uint64_t take_seed(const char *text)
+static uint64_t take_number(const char *text)
 {
     char *end;
-    uint64_t seed = strtoull(text, &end, 0);
+    if (text == NULL)
+        usage();
+    uint64_t number = strtoull(text, &end, 0);
     if (*text == '\0' || *text == '-' || *end != '\0')
         usage();
-    return seed;
+    return number;
+}
+
+static unsigned take_share(const char *text)
+{
+    uint64_t number = take_number(text);
+    if (number < 1 || number > 1000)
+        usage();
+    return (unsigned)number;
 }
 
 static uint64_t take_arguments(int count, char **arguments)
 {
     uint64_t seed = 17823;
     for (int i = 1; i < count; i++)
-        if (strcmp(arguments[i], "--quick") == 0)
-            quick = 1;
+        if (strcmp(arguments[i], "--share") == 0)
+            share = take_share(arguments[++i]);
         else if (strcmp(arguments[i], "-v") == 0)
             verbose = 1;
         else
-            seed = take_seed(arguments[i]);
+            seed = take_number(arguments[i]);
     return seed;
 }
 
 int main(int count, char **arguments)
 {
     uint64_t seed = take_arguments(count, arguments);
-    printf("host: seed %" PRIu64 "%s\n", seed, quick ? ", quick" : "");
+    printf("host: seed %" PRIu64 ", one in %u\n", seed, share);
     fflush(stdout);
     seed_random(seed);
     report_stray_access();

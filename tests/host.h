@@ -23,8 +23,9 @@ unsigned between(unsigned low, unsigned high);      /* both included */
 uint8_t other_byte(uint8_t than);
 void any_bytes(uint8_t *to, size_t count);
 
-/* A count of trials, or a seventh of it in a quick run. */
-extern int quick;
+/* One in so many is tried; and what that leaves of a count of trials, which is
+ * never none. */
+extern unsigned share;
 unsigned long rounds(unsigned long full);
 
 /* ---- host_report.c: what is tried, the report, counts ------------------- */
@@ -116,6 +117,8 @@ uint32_t expect_cells(unsigned enabled, unsigned bipolar,
 uint32_t expect_certificate(const uint8_t *file, size_t file_bytes,
                             uint8_t *text, size_t text_bytes);
 uint32_t expect_power_on(unsigned n, uint8_t *memory, size_t memory_bytes);
+/* The device that is stepped, or this for all of them in one call. */
+enum { WHOLE_CHAIN = 256 };
 uint32_t expect_step(unsigned n, unsigned device,
                      uint8_t *memory, size_t memory_bytes,
                      const uint8_t *line, size_t line_bytes,
@@ -211,7 +214,7 @@ const uint8_t *power_on_memory(void);               /* the last compared one's *
 uint32_t compare_certificate(const uint8_t *file, size_t file_bytes, size_t room);
 const uint8_t *certificate_text(void);              /* the last compared one's */
 
-/* ---- host_twin.c and host_rough.c: twin chains -------------------------- */
+/* ---- host_twin.c, host_rough.c and host_runs.c: twin chains ------------- */
 
 enum { MEMORY_MOST = 512 * 42, LINE_MOST = 320 };
 
@@ -241,7 +244,8 @@ void try_nearly_right_chains(struct chain *c);
     part("commands", try_commands)             \
     part("cells", try_cells)                   \
     part("twin", try_twin)                     \
-    part("certificates", try_certificates)
+    part("certificates", try_certificates)     \
+    part("whole chains", try_runs)
 
 #define DECLARE(name, run) void run(void);
 PARTS(DECLARE)

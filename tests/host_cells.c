@@ -190,7 +190,7 @@ enum { ANY_CELLS = 200000 };
 
 void try_cells(void)
 {
-    for (unsigned reg = 0; reg < 65536; reg++)
+    for (unsigned reg = 0; reg < 65536; reg += share)
         try_register(reg);
     for (unsigned long i = 0; i < rounds(ANY_CELLS); i++)
         try_any_cell();

@@ -48,14 +48,14 @@ static void try_each_bit(struct reply *r)
     }
 }
 
-/* Every pair, or every seventh in a quick run. */
+/* Every pair, or one in so many. */
 static void try_each_pair(struct reply *r)
 {
-    unsigned step = quick ? 7 : 1, at = 0;
+    unsigned at = 0;
     for (unsigned i = 0; i < line_bits(r); i++) {
         turn(r, i);
         for (unsigned j = i + 1; j < line_bits(r); j++)
-            if (at++ % step == 0) {
+            if (at++ % share == 0) {
                 turn(r, j);
                 must_refuse(r);
                 turn(r, j);

@@ -9,6 +9,7 @@
 #include "host.h"
 #include "second/cells.h"
 #include "second/certificate.h"
+#include "second/chain.h"
 #include "second/command.h"
 #include "second/part.h"
 #include "second/reader.h"
@@ -162,12 +163,16 @@ uint32_t expect_step(unsigned n, unsigned device,
     uint16_t registers[256 * BMC_MOST_DEVICES];
     uint16_t words[LINE_MOST / 2], next[LINE_MOST / 2];
     size_t count = line_bytes / 2;
-    if (!is_twin(n, device, memory_bytes))
+    size_t room = room_words(out_bytes, LINE_MOST / 2);
+    int number;
+    if (!is_twin(n, device == WHOLE_CHAIN ? 0 : device, memory_bytes))
         return S_TWIN;
     to_words(line, count, words);
     to_words(memory, memory_bytes / 2, registers);
-    int number = s_step(n, device, registers, memory_bytes / 2, words, count,
-                        next, room_words(out_bytes, LINE_MOST / 2));
+    if (device == WHOLE_CHAIN)
+        number = s_run(n, registers, memory_bytes / 2, words, count, next, room);
+    else
+        number = s_step(n, device, registers, memory_bytes / 2, words, count, next, room);
     if (number != S_ACCEPTED)
         return (uint32_t)number;
     if (line_bytes % 2 != 0)

@@ -58,9 +58,9 @@ uint64_t random_seed(void)
     return seed;
 }
 
-int quick;
+unsigned share = 1;
 
 unsigned long rounds(unsigned long full)
 {
-    return quick ? full / 7 : full;
+    return (full + share - 1) / share;
 }

@@ -1,5 +1,5 @@
 /*
- * host_twin.c: bmc_twin_power_on and bmc_twin_step.
+ * host_twin.c: bmc_twin_power_on, bmc_twin_step, and bmc_twin_run as a step of all.
  *
  * Commands go through whole chains, device by device, memory and line compared
  * after every step. Here the line that comes back must be the right answer, with
@@ -83,8 +83,11 @@ static void try_power_on(void)
 
 static void set_step_trial(const struct chain *c, unsigned device, size_t room)
 {
-    const unsigned long figures[3] = { c->n, device, room };
-    set_trial("bmc_twin_step", "n device room", figures, 3);
+    const unsigned long figures[3] = { c->n, room, device };
+    if (device == WHOLE_CHAIN)
+        set_trial("bmc_twin_run", "n room", figures, 2);
+    else
+        set_trial("bmc_twin_step", "n room device", figures, 3);
     trial.given[0] = (struct given){ "line", c->line, c->line_bytes };
     trial.given[1] = (struct given){ "memory", c->memory, c->memory_bytes };
 }
@@ -98,6 +101,10 @@ static void lend_chain(const struct chain *c)
 
 static uint32_t call_step(const struct chain *c, unsigned device)
 {
+    if (device == WHOLE_CHAIN)
+        return bmc_twin_run((uint8_t)c->n, memory.at, memory.bytes,
+                            line_memory.at, line_memory.bytes,
+                            out_memory.at, out_memory.bytes);
     return bmc_twin_step((uint8_t)c->n, (uint8_t)device,
                          memory.at, memory.bytes, line_memory.at, line_memory.bytes,
                          out_memory.at, out_memory.bytes);

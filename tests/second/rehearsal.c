@@ -5,24 +5,20 @@
  */
 #include "rehearsal.h"
 
+#include "chain.h"
 #include "command.h"
 #include "jobs.h"
 #include "line.h"
 #include "registers.h"
-#include "twin.h"
 
 /* A command through all devices in address order; the line's length. */
 static size_t through_chain(struct s_question q, uint16_t *memory, uint16_t *line)
 {
-    uint16_t next[S_MOST_WORDS];
-    size_t words, memory_words = (size_t)S_REGISTERS * q.n;
-    if (s_command(q, line, S_MOST_WORDS, &words) != S_ACCEPTED)
+    uint16_t command[S_MOST_WORDS];
+    size_t words;
+    if (s_command(q, command, S_MOST_WORDS, &words) != S_ACCEPTED)
         return 0;
-    for (unsigned device = 0; device < q.n; device++) {
-        s_step(q.n, device, memory, memory_words, line, words, next, S_MOST_WORDS);
-        for (size_t i = 0; i < words; i++)
-            line[i] = next[i];
-    }
+    s_run(q.n, memory, (size_t)S_REGISTERS * q.n, command, words, line, S_MOST_WORDS);
     return words;
 }
 

@@ -26,7 +26,8 @@
     part(twin)        \
     part(certificate) \
     part(job_files)   \
-    part(rehearsals)
+    part(rehearsals)  \
+    part(runs)
 
 #define DECLARE(name) void check_##name(void);
 PARTS(DECLARE)
