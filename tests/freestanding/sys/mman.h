@@ -1,0 +1,2 @@
+/* sys/mman.h: all of it stands in freestanding.h. */
+#include "../freestanding.h"

@@ -1,0 +1,2 @@
+/* time.h: all of it stands in freestanding.h. */
+#include "freestanding.h"
