@@ -40,8 +40,10 @@
  * Beside it stands the memory that is lent: a twin of n devices has 512 * n
  * bytes, a job file up to 65,536 and its text up to 82,143. So bmc_certificate,
  * and the twin of a long chain, are for processors with that much memory; the
- * others ask for a line, 280 bytes, and its values, 64. A program that leaves
- * calls out leaves their code out too, if it is linked with --gc-sections.
+ * others ask for a line, 280 bytes, and its values, 64.
+ *
+ * CODE. All calls together are 14 to 19 KB; the reader, the writer and the cells 7
+ * to 10. A program that is linked with --gc-sections takes in what it calls.
  *
  * WHAT THE CALLER OWES, in every call:
  *  - each pointer is valid for the length beside it, for reading where it is
