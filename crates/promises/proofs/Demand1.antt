@@ -30,14 +30,14 @@ use Rattle.c_commands.specs.CommandBytes.{packedIssued}
 use Rattle.c_twin.specs.TwinBytes.{powerNumber, stepNumber}
 use Rattle.c_cells.specs.CellsBytes.{cellsNumber}
 use Rattle.c_cells.proofs.EachCell.{cells-number, cell-at}
-use Rattle.promises.specs.ByNumber.{Row, NumberDue}
+use Rattle.promises.specs.ByNumber.{Row, row, NumberDue, packedNumber}
 use Rattle.promises.specs.Rows.{readRows}
-use Rattle.promises.specs.CallRows.{room, commandRows, powerOnRows, stepBytesRows, cellRows, cellsIntoRows}
-use Rattle.promises.specs.Demand1.{TurnedAway, packedNumber, Answers, Demand1}
+use Rattle.promises.specs.CallRows.{room, commandRows, NoChain, stepBytesRows, cellRows}
+use Rattle.promises.specs.Demand1.{TurnedAway, Answers, Demand1}
 use Rattle.promises.proofs.ByNumber.{Small, below-256}
 use Rattle.promises.proofs.Rows.{by-number}
 use Rattle.promises.proofs.CallsByNumber.{enough-room, short-of-room, command-due, powered-due, powered-bytes-due, chain-due, step-due, span-due}
-use Rattle.promises.proofs.CallsByNumber.{step-bytes-due, cell-due, cell-into-due, cells-into-due}
+use Rattle.promises.proofs.CallsByNumber.{step-bytes-due, cell-due, cell-into-due, cellsRows, cells-into-due}
 use Rattle.promises.proofs.JobNumbers.{opened-by-number, next-by-number, listened-by-number, nothing-by-number, printed-by-number}
 use Rattle.promises.proofs.JobNumbers.{certified-by-number, certificate-bytes-by-number, rehearsed-by-number}
 use Rattle.promises.proofs.RefusedWritesNothing.{refused-read, refused-command, refused-power-on, refused-step}
@@ -170,13 +170,13 @@ demand-1 = record {
   cells-into = λ enabled bipolar registers microvolts volts answers.
       one (record { says = refl; microvolts = refl; volts = refl; answers = refl })
       (λ after r done. (done .says, three (done .microvolts, done .volts, done .answers)))
-      (small-due (cellsIntoRows bipolar (length registers) (length microvolts) (length volts) (length answers))
+      (small-due (cellsRows bipolar registers microvolts volts answers)
       (cellsNumber bipolar registers microvolts volts answers) (lit< tt, (lit< tt, (lit< tt, tt))) (cells-into-due bipolar registers microvolts volts answers))
       (λ after r done away. three (refused-cells enabled bipolar registers microvolts (after .0) volts (after .1) answers (after .2) r done away));
   each-cell-into = own-cell;
   power-on-bytes = λ n memory.
       one (record { says = refl; leaves = refl }) (λ after r done. (done .says, done .leaves))
-      (small-due (powerOnRows 512 n (length memory)) (powerNumber n (length memory)) (lit< tt, tt) (powered-bytes-due n (length memory))) (refused-power-bytes n memory);
+      (small-due (row 15 (NoChain 512 n (length memory)) ∷ []) (powerNumber n (length memory)) (lit< tt, tt) (powered-bytes-due n (length memory))) (refused-power-bytes n memory);
   step-bytes = λ n device memory line out.
       one (record { says = refl; remembers = refl; leaves = refl }) (λ after r done. (done .says, both (done .remembers, done .leaves)))
       (small-due (stepBytesRows n device (length memory) (length out) (length line)) (stepNumber n device memory line out) (lit< tt, (lit< tt, (lit< tt, tt)))

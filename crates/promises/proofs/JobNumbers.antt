@@ -5,10 +5,10 @@ use mathlib.Core.Path.{_≡_, refl, sym, ap, ap₂, subst, _∙_}
 use mathlib.Core.Bool.{Bool, true, false, cond, false≢true}
 use mathlib.Core.Logic.{_⊎_, inl, inr, ⊎-elim}
 use mathlib.Core.List.{List, [], _∷_, _++_}
-use Prim.Native.Nat.{ℕ, _+_, _%_, _≤_, _<_}
+use Prim.Native.Nat.{ℕ, _+_, _-_, _%_, _≤_, _<_}
 use native.Mathlib.Omega.{arith}
 use lib.Dec.{leb}
-use lib.ListN.{length, drop}
+use lib.ListN.{length, drop, length-drop}
 use borrow.Author.Tests.{leb-true, leb-false}
 use Rattle.ground.proofs.Test.{refuted}
 use Rattle.remainder.specs.Turned.{Bytes}
@@ -40,7 +40,7 @@ use Rattle.rehearsal.proofs.Counting.{rehearsed-size}
 use Rattle.bmc.specs.Exports.{packedCertified, CertificateBytesDone}
 use Rattle.promises.specs.ByNumber.{row, NumberDue}
 use Rattle.promises.specs.Rows.{readRows}
-use Rattle.promises.specs.CallRows.{NoJobFile, NoEntry, openRows, nextRows, printRows, certifyRows, AnsweredAbove, rehearseRows}
+use Rattle.promises.specs.CallRows.{room, NoJobFile, NoEntry, certifyRows, AnsweredAbove}
 use Rattle.promises.proofs.Rows.{by-number}
 use Rattle.promises.proofs.CallsByNumber.{enough-room, short-of-room}
 use Rattle.promises.proofs.Certificate.{text-for, only-text}
@@ -61,25 +61,26 @@ good-is-an-entry h rest small good none =
 
 -- ---- a file opened, an entry taken out
 
-pub opened-by-number : (file : List ℕ) → Bytes file → NumberDue (openRows file) (openedNumber (openedOf file))
+pub opened-by-number : (file : List ℕ) → Bytes file → NumberDue (row 14 (NoJobFile file) ∷ []) (openedNumber (openedOf file))
 unfolding openedOf
 opened-by-number file small = by-test (goodFile file) refl
   where
-    by-test : (good : Bool) → goodFile file ≡ good → NumberDue (openRows file) (openedNumber (cond good (opened.Job (headerIn file)) opened.File))
+    by-test : (good : Bool) → goodFile file ≡ good → NumberDue (row 14 (NoJobFile file) ∷ []) (openedNumber (cond good (opened.Job (headerIn file)) opened.File))
     by-test true good = inr (good-is-a-job file small good, refl)
     by-test false bad = inl (bad-is-no-job file bad, refl)
 
 pub next-by-number : (h : Header) (file : List ℕ) (c : Cursor) → Bytes file
-    → NumberDue (nextRows h (drop (c .at) file)) (nextNumber (nextOf h file c))
+    → NumberDue (row 14 ((c .at < length file) × NoEntry h (drop (c .at) file)) ∷ []) (nextNumber (nextOf h file c))
 unfolding nextOf
-next-by-number h file c small = by-rest (drop (c .at) file) (drop-bytes (c .at) file small)
+next-by-number h file c small = by-rest (drop (c .at) file) (drop-bytes (c .at) file small) (length-drop (c .at) file)
   where
-    by-rest : (rest : List ℕ) → Bytes rest → NumberDue (nextRows h rest) (nextNumber (nextIn h (c .at) rest))
-    by-rest [] few = inr ((λ some. omega (arith, some .0)), refl)
-    by-rest (b ∷ rest) few = by-test (goodEntry h (b ∷ rest)) refl
+    by-rest : (rest : List ℕ) → Bytes rest → length rest ≡ length file - c .at
+        → NumberDue (row 14 ((c .at < length file) × NoEntry h rest) ∷ []) (nextNumber (nextIn h (c .at) rest))
+    by-rest [] few size = inr ((λ some. omega (arith, some .0)), refl)
+    by-rest (b ∷ rest) few size = by-test (goodEntry h (b ∷ rest)) refl
       where
         by-test : (good : Bool) → goodEntry h (b ∷ rest) ≡ good
-            → NumberDue (nextRows h (b ∷ rest)) (nextNumber (cond good (placedIn h (c .at) (b ∷ rest)) next.File))
+            → NumberDue (row 14 ((c .at < length file) × NoEntry h (b ∷ rest)) ∷ []) (nextNumber (cond good (placedIn h (c .at) (b ∷ rest)) next.File))
         by-test true good = inr ((λ some. good-is-an-entry h (b ∷ rest) few good (some .1)), refl)
         by-test false bad = inl ((omega arith, bad-is-no-entry h (b ∷ rest) bad), refl)
 
@@ -111,7 +112,7 @@ nothing-by-number h front s small none =
 -- ---- a text printed
 
 pub printed-by-number : (n : ℕ) (numbers : List ℕ) (s : Standing) (text : List ℕ)
-    → NumberDue (printRows (length numbers) (length text) (length (certificateText n numbers s))) (printedNumber (printedOf n numbers s text))
+    → NumberDue (row 14 (mostEntries < length numbers) ∷ room (length text) (length (certificateText n numbers s)) ∷ []) (printedNumber (printedOf n numbers s text))
 unfolding printedOf
 printed-by-number n numbers s text = by-tests (leb (length numbers) mostEntries) refl (leb bytes (length text)) refl
   where
@@ -119,7 +120,7 @@ printed-by-number n numbers s text = by-tests (leb (length numbers) mostEntries)
     bytes = length (certificateText n numbers s)
 
     by-tests : (few : Bool) → leb (length numbers) mostEntries ≡ few → (fits : Bool) → leb bytes (length text) ≡ fits
-        → NumberDue (printRows (length numbers) (length text) bytes) (printedNumber (cond few (cond fits (printed.Bytes bytes) printed.Room) printed.Many))
+        → NumberDue (row 14 (mostEntries < length numbers) ∷ room (length text) bytes ∷ []) (printedNumber (cond few (cond fits (printed.Bytes bytes) printed.Room) printed.Many))
     by-tests false many fits f = inl (leb-false (length numbers) mostEntries many, refl)
     by-tests true few true fits = inr ((λ many. omega (arith, leb-true (length numbers) mostEntries few)), enough-room (length text) bytes fits)
     by-tests true few false short = inr ((λ many. omega (arith, leb-true (length numbers) mostEntries few)), short-of-room (length text) bytes short)
@@ -174,7 +175,7 @@ not-above : (file : List ℕ) (most : ℕ) → length (rehearsalOf file) ≤ mos
 not-above file most fits over = omega (arith, fits, answered-bytes (over .0) (over .1) file (over .2), over .3)
 
 pub rehearsed-by-number : (file before : List ℕ) → Bytes file
-    → NumberDue (rehearseRows file (length before)) (rehearsedNumber (rehearsedOf file before))
+    → NumberDue (row 14 (NoJobFile file ⊎ AnsweredAbove file 65536) ∷ row 2 (AnsweredAbove file (length before)) ∷ []) (rehearsedNumber (rehearsedOf file before))
 unfolding rehearsedOf
 rehearsed-by-number file before small = by-tests (goodFile file) refl (leb bytes 65536) refl (leb bytes (length before)) refl
   where
@@ -182,7 +183,7 @@ rehearsed-by-number file before small = by-tests (goodFile file) refl (leb bytes
     bytes = length (rehearsalOf file)
 
     by-tests : (good : Bool) → goodFile file ≡ good → (short : Bool) → leb bytes 65536 ≡ short → (fits : Bool) → leb bytes (length before) ≡ fits
-        → NumberDue (rehearseRows file (length before))
+        → NumberDue (row 14 (NoJobFile file ⊎ AnsweredAbove file 65536) ∷ row 2 (AnsweredAbove file (length before)) ∷ [])
         (rehearsedNumber (cond good (cond short (cond fits (rehearsed.Bytes bytes) rehearsed.Room) rehearsed.File) rehearsed.File))
     by-tests false bad short e fits f = inl (inl (bad-is-no-job file bad), refl)
     by-tests true good false long fits f = inl (inr (above file _ small good (omega (arith, leb-false bytes 65536 long))), refl)

@@ -25,7 +25,7 @@ use Rattle.acceptance.proofs.Wire.{bytes-append, bytes-cons}
 use Rattle.acceptance.proofs.Sealed.{length-sealed}
 use Rattle.promises.specs.Demand3.{ReadsAll, answerLine}
 use Rattle.promises.specs.WhereItEnds.{inDevice, damage}
-use Rattle.promises.proofs.Apart.{varied, length-varied, varied-bytes, start, answer, answer-are-bytes}
+use Rattle.promises.proofs.Apart.{asks-all, varied, length-varied, varied-bytes, start, answer, answer-are-bytes}
 use Rattle.promises.proofs.MasksOnWire.{turned-append, varied-turned, turned-registers, device-registers}
 use Rattle.promises.proofs.MasksOnLine.{length-on-line, line-turned, no-mask}
 
@@ -47,7 +47,9 @@ module _ (q : Question) (values : List ℕ) (all : ReadsAll q values) (device bi
   pub others-read : ReadsAll q others
   unfolding others
   others-read = record {
-    asks = all .asks;
+    kind = all .kind;
+    good = all .good;
+    sends = all .sends;
     number = length-turned values mask ∙ all .number;
     registers = turned-registers values mask (all .registers) mask-registers;
   }
@@ -61,7 +63,7 @@ module _ (q : Question) (values : List ℕ) (all : ReadsAll q values) (device bi
   unfolding sealed turned behind others pecOf run start
   bytes-turned =
       let alive = aliveByte q (shapeOf q .acting) in
-      let begun = start q (all .asks) in
+      let begun = start q (asks-all q values all) in
       let size : length (varied values) ≡ length (varied mask) = omega (arith, length-varied values, length-varied mask, same) in
       let pec : bitXor (run byteStep begun (varied values)) (run byteStep 0 (varied mask)) ≡ run byteStep begun (varied others) =
       sym (run-linear byteStep byte-linear begun 0 (varied values) (varied mask) size)
@@ -92,7 +94,7 @@ module _ (q : Question) (values : List ℕ) (all : ReadsAll q values) (device bi
   masks-long =
       omega (
         arith,
-        length-sealed q (shapeOf q .acting) (good-alive q (all .asks .good)) (readCovered q values 0),
+        length-sealed q (shapeOf q .acting) (good-alive q (all .good)) (readCovered q values 0),
         length-append (varied mask) behind,
         length-replicate {A = ℕ} (q .alive) 0,
         length-varied values,
@@ -103,12 +105,12 @@ module _ (q : Question) (values : List ℕ) (all : ReadsAll q values) (device bi
   pub line-is-turned : turned (answerLine q values) (damage (q .n) (q .alive) device bits) ≡ answerLine q others
   unfolding damage mask behind
   line-is-turned =
-      ap (λ (l : List ℕ). turned (lineOf l) (damage (q .n) (q .alive) device bits)) (answer q (all .asks) values)
-      ∙ line-turned _ _ masks-long (answer-are-bytes q (all .asks) values (all .registers)) masks-are-bytes ∙ ap lineOf bytes-turned
-      ∙ ap lineOf (sym (answer q (all .asks) others))
+      ap (λ (l : List ℕ). turned (lineOf l) (damage (q .n) (q .alive) device bits)) (answer q (asks-all q values all) values)
+      ∙ line-turned _ _ masks-long (answer-are-bytes q (asks-all q values all) values (all .registers)) masks-are-bytes ∙ ap lineOf bytes-turned
+      ∙ ap lineOf (sym (answer q (asks-all q values all) others))
 
   pub damage-long : length (damage (q .n) (q .alive) device bits) ≡ length (answerLine q values)
   unfolding damage mask behind
   damage-long =
-      length-on-line _ ∙ ap (λ (k : ℕ). 2 * k + 2) (sym masks-long ∙ sym (ap length (answer q (all .asks) values)))
+      length-on-line _ ∙ ap (λ (k : ℕ). 2 * k + 2) (sym masks-long ∙ sym (ap length (answer q (asks-all q values all) values)))
       ∙ sym (length-line (answerBytes q values 0))

@@ -31,6 +31,6 @@ unfolding damage onLine onCharacters onWire asBytes run byteStep bitStep times n
 where-it-ends = record {
   four-bits-pass = λ q values all many. not-found q values all 14 1 (lit< tt) 15 2 (omega arith) four-ends (omega arith);
   six-bits-pass = λ q values all.
-      not-found q values all 0 4 (lit< tt) 1 3 (omega arith) six-ends (good-count q (all .asks .good) (omega (arith, all .asks .kind)) .0);
+      not-found q values all 0 4 (lit< tt) 1 3 (omega arith) six-ends (good-count q (all .good) (omega (arith, all .kind)) .0);
   document-01 = λ alive. (refl, refl);
 }

@@ -17,7 +17,8 @@ use Rattle.reader.specs.Read.{ReadDone}
 use Rattle.parts.specs.Part.{orderOf, partOf}
 use Rattle.acceptance.specs.Part.{partValue}
 use Rattle.c_parts.specs.PartBytes.{partIn}
-use Rattle.promises.specs.Demand1.{packedNumber, Returns}
+use Rattle.promises.specs.ByNumber.{packedNumber}
+use Rattle.promises.specs.Demand1.{Returns}
 use Rattle.promises.specs.CSide.{upperHalf}
 
 -- where the characters of a device's value start, of so many values on the line: behind the preamble and the two first bytes, which are five
