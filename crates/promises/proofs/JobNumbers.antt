@@ -8,7 +8,7 @@ use mathlib.Core.List.{List, [], _∷_, _++_}
 use Prim.Native.Nat.{ℕ, _+_, _-_, _%_, _≤_, _<_}
 use native.Mathlib.Omega.{arith}
 use lib.Dec.{leb}
-use lib.ListN.{length, drop, length-drop}
+use lib.ListN.{length, getD, drop, length-drop}
 use borrow.Author.Tests.{leb-true, leb-false}
 use Rattle.ground.proofs.Test.{refuted}
 use Rattle.remainder.specs.Turned.{Bytes}
@@ -25,7 +25,7 @@ use Rattle.jobs.proofs.Sizes.{head-length}
 use Rattle.jobs.proofs.OneEntry.{entry-back, entry-good, good-is-written, drop-bytes}
 use Rattle.jobs.proofs.GoodFile.{header-read, entries-read, encoded-is-good, good-is-encoded}
 use Rattle.letters.specs.declared.Standing.{Standing}
-use Rattle.printing.specs.Text.{certificateText}
+use Rattle.printing.specs.Text.{deviceLineIf, certificateText}
 use Rattle.printing.specs.Print.{mostEntries, printedOf, printedNumber}
 use Rattle.printing.specs.declared.Printed.the-variants as printed
 use Rattle.certificate.specs.Certificate.{certificateOf, certifiedOf, certifiedNumber}
@@ -40,6 +40,7 @@ use Rattle.rehearsal.proofs.Counting.{rehearsed-size}
 use Rattle.bmc.specs.Exports.{packedCertified, CertificateBytesDone}
 use Rattle.promises.specs.ByNumber.{row, NumberDue}
 use Rattle.promises.specs.Rows.{readRows}
+use Rattle.promises.specs.Certificate.{linesOf}
 use Rattle.promises.specs.CallRows.{room, NoJobFile, NoEntry, certifyRows, AnsweredAbove}
 use Rattle.promises.proofs.Rows.{by-number}
 use Rattle.promises.proofs.CallsByNumber.{enough-room, short-of-room}
@@ -111,10 +112,10 @@ nothing-by-number h front s small none =
 
 -- ---- a text printed
 
-pub printed-by-number : (n : ℕ) (numbers : List ℕ) (s : Standing) (text : List ℕ)
+text-by-number : (n : ℕ) (numbers : List ℕ) (s : Standing) (text : List ℕ)
     → NumberDue (row 14 (mostEntries < length numbers) ∷ room (length text) (length (certificateText n numbers s)) ∷ []) (printedNumber (printedOf n numbers s text))
 unfolding printedOf
-printed-by-number n numbers s text = by-tests (leb (length numbers) mostEntries) refl (leb bytes (length text)) refl
+text-by-number n numbers s text = by-tests (leb (length numbers) mostEntries) refl (leb bytes (length text)) refl
   where
     bytes : ℕ
     bytes = length (certificateText n numbers s)
@@ -124,6 +125,12 @@ printed-by-number n numbers s text = by-tests (leb (length numbers) mostEntries)
     by-tests false many fits f = inl (leb-false (length numbers) mostEntries many, refl)
     by-tests true few true fits = inr ((λ many. omega (arith, leb-true (length numbers) mostEntries few)), enough-room (length text) bytes fits)
     by-tests true few false short = inr ((λ many. omega (arith, leb-true (length numbers) mostEntries few)), short-of-room (length text) bytes short)
+
+pub printed-by-number : (n : ℕ) (numbers : List ℕ) (s : Standing) (text : List ℕ)
+    → NumberDue (row 14 (mostEntries < length numbers) ∷ room (length text) (length (linesOf n numbers (λ a. deviceLineIf (s .write) a (getD (s .letters) a 0)))) ∷ [])
+    (printedNumber (printedOf n numbers s text))
+unfolding certificateText
+printed-by-number = text-by-number
 
 -- ---- the certificate
 

@@ -35,7 +35,7 @@ use Rattle.jobs.specs.Check.{openedOf, openedNumber, nextOf, nextNumber}
 use Rattle.letters.specs.declared.Standing.{Standing}
 use Rattle.listening.specs.declared.Listened.{Listened}
 use Rattle.listening.specs.Listening.{listenOf}
-use Rattle.printing.specs.Text.{certificateText}
+use Rattle.printing.specs.Text.{deviceLineIf}
 use Rattle.printing.specs.Print.{mostEntries, PrintDone, printedNumber}
 use Rattle.certificate.specs.Certificate.{CertificateDone, certifiedNumber}
 use Rattle.rehearsal.specs.Rehearsal.{RehearsalDone, rehearsedNumber}
@@ -48,6 +48,7 @@ use Rattle.c_twin.specs.TwinBytes.{PowerBytesDone, StepBytesDone}
 use Rattle.bmc.specs.Exports.{CertificateBytesDone}
 use Rattle.promises.specs.ByNumber.{Row, row, NumberDue, packedNumber}
 use Rattle.promises.specs.Rows.{readRows}
+use Rattle.promises.specs.Certificate.{linesOf}
 use Rattle.promises.specs.CallRows.{room, commandRows, NoChain, twinRows, stepBytesRows, NoJobFile, NoEntry, certifyRows, AnsweredAbove, cellRows}
 
 -- turned away: an answer's number is a row's, and not 0
@@ -125,8 +126,8 @@ pub record Demand1 : Type 0 where
   pub listen-file : (h : Header) (front : List ℕ) (s : Standing) → Bytes front → NoEntry h front
       → Replies (row 14 (NoEntry h front) ∷ []) (λ (r : Listened). r .number) (Returns (listenOf h front s))
   pub print : (n : ℕ) (numbers : List ℕ) (s : Standing) (text : List ℕ)
-      → Answers (row 14 (mostEntries < length numbers) ∷ room (length text) (length (certificateText n numbers s)) ∷ []) printedNumber text
-      (PrintDone n numbers s text)
+      → Answers (row 14 (mostEntries < length numbers) ∷ room (length text) (length (linesOf n numbers (λ a. deviceLineIf (s .write) a (getD (s .letters) a 0)))) ∷ [])
+      printedNumber text (PrintDone n numbers s text)
   -- the certificate and the rehearsal, of every file of bytes; the rehearsal FILE also where the file with its answers would be too long
   pub certify : (file text : List ℕ) → Bytes file → Answers (certifyRows file (length text)) certifiedNumber text (CertificateDone file text)
   pub rehearse : (file out : List ℕ) → Bytes file
