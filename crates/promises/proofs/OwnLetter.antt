@@ -14,7 +14,7 @@ use Rattle.questions.specs.Question.{writeAll, writeDevice, goodQuestion, cover
 use Rattle.questions.specs.declared.question.Question.{Question}
 use Rattle.questions.proofs.Good.{good-count, good-device}
 use Rattle.letters.specs.Letters.{Heard, isGoodWrite, standingAfter}
-use Rattle.letters.specs.Meaning.{Deserves, holds, differs, unread}
+use Rattle.letters.specs.Meaning.{Deserves}
 use Rattle.letters.proofs.Meaning.{given-is-deserved, deserved-is-given}
 use Rattle.letters.proofs.OwnView.{own-view}
 use Rattle.printing.specs.Text.{deviceLine}
@@ -41,9 +41,7 @@ covered-below q write a covered = let chain = covered-in-chain q write a covered
 
 -- so is what deserves a letter
 pub deserving-below : {xs : List Heard} {a letter : ℕ} → Deserves xs a letter → a < 32
-deserving-below {a = a} (holds w covered r same) = covered-below (w .entry .question) (w .passes) a covered
-deserving-below {a = a} (differs w covered r other) = covered-below (w .entry .question) (w .passes) a covered
-deserving-below {a = a} (unread w covered silent) = covered-below (w .entry .question) (w .passes) a covered
+deserving-below {a = a} due = covered-below (due .write .entry .question) (due .write .passes) a (due .covered)
 
 -- what is deserved in one job is deserved in the other
 deserves-alike : (a v : ℕ) (xs xs′ : List Heard) → (covers (standingAfter xs .write) a ≡ covers (standingAfter xs′ .write) a)
