@@ -14,8 +14,8 @@ use Rattle.promises.specs.WhereDue.{WhereDue}
 use Rattle.promises.specs.Demand2.{Due}
 use Rattle.promises.specs.CSide.{PackedAs}
 
--- where due, two bytes being lent for a value, and an odd last byte counting for none; the line's bytes stand for their words, two bytes a word, and an
--- odd number of them for no line at all
+-- where due, two bytes being lent for a value, and an odd last byte counting for none; the line's bytes stand for their words, two bytes a word, and
+-- an odd number of them for no line at all
 abbrev pub CSideAnswers : Type 0
 CSideAnswers =
     (q : Question) (line before : List ℕ)

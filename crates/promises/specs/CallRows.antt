@@ -1,4 +1,5 @@
 -- Rows of "Turned away" as they apply to the calls besides the reader, in the order of their checks, each said as document 01's table says it.
+-- What is one call's alone stands beside that call, in Demand1.antt.
 use mathlib.Core.Path.{_≡_}
 use mathlib.Core.Bool.{true, false}
 use mathlib.Core.Logic.{_⊎_}

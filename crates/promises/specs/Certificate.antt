@@ -38,8 +38,8 @@ pub data DeviceLine (heard : List Heard) (a : ℕ) : (line : List ℕ) → Type 
   lettered : (v : ℕ) → Deserves heard a v → DeviceLine heard a (deviceLine a v)
   none : ((v : ℕ) → Deserves heard a v → ⊥) → DeviceLine heard a []
 
--- the lines of a text, of a number for each entry and a line, or none, for each device: the first one, the E lines counted from 1, the D lines in address
--- order; no chain has more than 32 devices
+-- the lines of a text, of a number for each entry and a line, or none, for each device: the first one, the E lines counted from 1, the D lines in
+-- address order; no chain has more than 32 devices
 abbrev pub linesOf : (n : ℕ) (numbers : List ℕ) (line : (a : ℕ) → List ℕ) → List ℕ
 linesOf n numbers line = headLine n ++ (entryLines numbers ++ firstLines line 32)
 
@@ -65,10 +65,12 @@ CertificateDue file before text = TextFor file text × (length text ≤ length b
 pub record PrintedCertificate : Type 0 where
   -- written where it is due: by `certify`, whose answer says how many bytes were written;
   pub certify : (file before : List ℕ) → Bytes file
-      → WhereDue certifiedNumber before (CertificateDone file before) Unit (CertificateDue file before) (λ text r. r ≡ certified.Bytes (length text)) (λ text. text)
+      → WhereDue certifiedNumber before (CertificateDone file before) Unit (CertificateDue file before)
+      (λ text r. r ≡ certified.Bytes (length text)) (λ text. text)
   -- and by C's call, where bits 8 to 31 say so
   pub in-bytes : (file before : List ℕ) → Bytes file
-      → WhereDue packedNumber before (CertificateBytesDone file before) Unit (CertificateDue file before) (λ text r. r / 256 ≡ length text) (λ text. text)
+      → WhereDue packedNumber before (CertificateBytesDone file before) Unit (CertificateDue file before)
+      (λ text r. r / 256 ≡ length text) (λ text. text)
   -- every job file has a text, 82,143 bytes hold it, and it has no other
   pub every-job : (h : Header) (es : List Entry) (file : List ℕ) → Encodes h es file
       → (text : List ℕ) × CertificateText h es text × (length text ≤ mostText)

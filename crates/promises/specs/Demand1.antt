@@ -109,14 +109,14 @@ pub record Demand1 : Type 0 where
   pub each-cell : (range : Range) (mask : ℕ) (registers : List Register) (cells : List Cell) → Returns (cellsOf range mask registers) cells
       → (k : ℕ) → k < length registers
       → NumberDue (cellRows mask (suc k) (getD registers k (record { 0 = 0 }) .0)) (cellNumber (getD cells k NotMeasured))
-  -- the twin: power-on; a step, TWIN also where its device is not in the chain; a span of devices, from .. to - 1, TWIN also where they are not: their
-  -- end is above the chain's, or below their beginning; a chain
+  -- the twin: power-on; a step, TWIN also where its device is not in the chain; a span of devices, from .. to - 1, TWIN also where they are not:
+  -- their end is above the chain's, or below their beginning; a chain
   pub power-on : (n : ℕ) (memory : List ℕ) → Answers (row 15 (NoChain 256 n (length memory)) ∷ []) poweredNumber memory (PoweredOn n memory)
   pub step : (n device : ℕ) → Steps (twinRows (λ size. NoChain 256 n size ⊎ (n ≤ device))) steppedNumber (StepDone n device)
   pub run-span : (n from to : ℕ) → Steps (twinRows (λ size. NoChain 256 n size ⊎ ((to < from) ⊎ (n < to)))) steppedNumber (SpanDone n from to)
   pub run-chain : (n : ℕ) → Steps (twinRows (NoChain 256 n)) steppedNumber (ChainDone n)
-  -- a job file opened; its entries taken out, where something stands (behind the last entry is no refusal), and one heard; a certificate printed, FILE
-  -- for more entries than a job file can have
+  -- a job file opened; its entries taken out, where something stands (behind the last entry is no refusal), and one heard; a certificate printed,
+  -- FILE for more entries than a job file can have
   pub open-file : (file : List ℕ) → Bytes file → Replies (row 14 (NoJobFile file) ∷ []) openedNumber (Returns (openedOf file))
   pub next-entry : (h : Header) (file : List ℕ) (c : Cursor) → Bytes file
       → Replies (row 14 ((c .at < length file) × NoEntry h (drop (c .at) file)) ∷ []) nextNumber (Returns (nextOf h file c))
@@ -126,7 +126,8 @@ pub record Demand1 : Type 0 where
   pub listen-file : (h : Header) (front : List ℕ) (s : Standing) → Bytes front → NoEntry h front
       → Replies (row 14 (NoEntry h front) ∷ []) (λ (r : Listened). r .number) (Returns (listenOf h front s))
   pub print : (n : ℕ) (numbers : List ℕ) (s : Standing) (text : List ℕ)
-      → Answers (row 14 (mostEntries < length numbers) ∷ room (length text) (length (linesOf n numbers (λ a. deviceLineIf (s .write) a (getD (s .letters) a 0)))) ∷ [])
+      → Answers (row 14 (mostEntries < length numbers)
+      ∷ room (length text) (length (linesOf n numbers (λ a. deviceLineIf (s .write) a (getD (s .letters) a 0)))) ∷ [])
       printedNumber text (PrintDone n numbers s text)
   -- the certificate and the rehearsal, of every file of bytes; the rehearsal FILE also where the file with its answers would be too long
   pub certify : (file text : List ℕ) → Bytes file → Answers (certifyRows file (length text)) certifiedNumber text (CertificateDone file text)

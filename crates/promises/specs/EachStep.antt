@@ -1,8 +1,8 @@
 -- EACH STEP BY ITS RULE (document 01, "The twin"). Claimed of every chain of 1 to 32 devices, of each device of it, of every line and all
 -- registers, and of every answer that meets `step`'s contract: on a command for it, as the devices before would have left it, the device hands
 -- on that command with HELLOALL's last byte and the alive byte one more and its own value directly after the register byte, and of its registers
--- changes those that a write reaches, and no others; any other line passes unchanged, and no register changes; no other device's registers ever change; and
--- the line handed on is as long as the line taken.
+-- it changes those that a write reaches, to the value written, and no others; any other line passes unchanged, and no register changes; no other
+-- device's registers ever change; and the line handed on is as long as the line taken.
 use mathlib.Core.Path.{_≡_}
 use mathlib.Core.Bool.{cond}
 use mathlib.Core.List.{List, _++_}
