@@ -10,12 +10,11 @@ use Rattle.questions.specs.declared.question.Question.{Question}
 use Rattle.readings.specs.Reading.{numberOf}
 use Rattle.judging.specs.Judge.{judgeOf}
 use Rattle.judging.proofs.Accepted.{accepted-takes}
-use Rattle.acceptance.specs.Answer.{Sendable, readingOf, handedOut}
+use Rattle.acceptance.specs.Answer.{readingOf, handedOut}
 use Rattle.acceptance.proofs.AcceptedIsAnAnswer.{accepted-is-an-answer}
 use Rattle.acceptance.proofs.AnswerIsAccepted.{answer-is-accepted, accepted-reading}
 use Rattle.c_reader.specs.ReadBytes.{readingOn, ReadBytesDone}
 use Rattle.promises.specs.ByNumber.{packedNumber}
-use Rattle.promises.specs.Demand2.{Due}
 use Rattle.promises.specs.CSide.{PackedAs}
 use Rattle.promises.specs.CSideAnswers.{CSideAnswers}
 use Rattle.promises.proofs.CSideLine.{number-packed}
@@ -25,31 +24,24 @@ module _ (q : Question) (line before after : List ℕ) (r : ℕ) (done : ReadByt
   pub own-number : packedNumber r ≡ numberOf (readingOn q line before)
   own-number = ap packedNumber (done .says) ∙ number-packed (readingOn q line before)
 
-  only-then : packedNumber r ≡ 0
-      → (values : List ℕ) × Due q (lineOn line) (length before / 2) values × PackedAs r (readingOf q values)
-      × (after ≡ atFront (asBytes (handedOut q values)) before)
-  unfolding readingOn
-  only-then accepted =
+pub c-side-answers : CSideAnswers
+unfolding readingOn
+c-side-answers q line before = record {
+  only-then = λ after r done accepted.
       let room = length before / 2 in
-      let none : numberOf (judgeOf q (lineOn line) room) ≡ 0 = sym own-number ∙ accepted in
+      let none : numberOf (judgeOf q (lineOn line) room) ≡ 0 = sym (own-number q line before after r done) ∙ accepted in
       let taken = accepted-takes q (lineOn line) room none in
       let a = accepted-is-an-answer q (lineOn line) room none in (
         a .values,
         record { good = taken .good; room = omega (arith, taken .enough); answer = a .answer },
         subst (PackedAs r) (a .reading) (packed-as q line before after r done),
         done .leaves ∙ ap (λ (l : List ℕ). atFront (asBytes l) before) (a .handed),
-      )
-
-  always-then : Sendable q → (values : List ℕ) → Due q (lineOn line) (length before / 2) values
-      → (packedNumber r ≡ 0) × PackedAs r (readingOf q values) × (after ≡ atFront (asBytes (handedOut q values)) before)
-  unfolding readingOn
-  always-then sends values due =
+      );
+  always-then = λ after r done sends values due.
       let room = length before / 2 in
       let a = answer-is-accepted q (due .good) sends room (omega (arith, due .room)) values (lineOn line) (due .answer) in (
-        own-number ∙ ap numberOf (a .0) ∙ accepted-reading q values (due .answer .fitting),
+        own-number q line before after r done ∙ ap numberOf (a .0) ∙ accepted-reading q values (due .answer .fitting),
         subst (PackedAs r) (a .0) (packed-as q line before after r done),
         done .leaves ∙ ap (λ (l : List ℕ). atFront (asBytes l) before) (a .1),
-      )
-
-pub c-side-answers : CSideAnswers
-c-side-answers q line before = record { only-then = only-then q line before; always-then = always-then q line before }
+      );
+}

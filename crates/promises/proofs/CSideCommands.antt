@@ -16,8 +16,6 @@ use Rattle.commands.specs.Command.{commandLine, issuedOf, issuedNumber}
 use Rattle.commands.specs.declared.Issued.the-variants.{Words, Question, Room}
 use Rattle.c_commands.specs.CommandBytes.{packedIssued, CommandBytesDone}
 use Rattle.promises.specs.ByNumber.{packedNumber}
-use Rattle.promises.specs.Demand2.{CommandDue}
-use Rattle.promises.specs.CSide.{upperHalf}
 use Rattle.promises.specs.CSideCommands.{CSideCommands}
 
 module _ (q : asked.Question) (before after : List ℕ) (r : ℕ) (done : CommandBytesDone q before after r) where
@@ -40,26 +38,21 @@ module _ (q : asked.Question) (before after : List ℕ) (r : ℕ) (done : Comman
       by-tests true good false fits e = absurd (omega arith)
       by-tests false bad u fits e = absurd (omega arith)
 
-  written : goodQuestion q ≡ true → Fits
-      → (packedNumber r ≡ 0) × (upperHalf r ≡ length (commandLine q)) × (after ≡ atFront (asBytes (commandLine q)) before)
-  written good room =
-      let packed = done .says ∙ ap packedIssued (is-issued good room) in (
-        omega (arith, packed),
-        omega (arith, packed),
-        done .leaves ∙ left-written (atFront (asBytes (commandLine q)) before) before _ (ap issuedNumber (is-issued good room)),
-      )
-
-  only-then : packedNumber r ≡ 0
-      → (line : List ℕ) × CommandDue q (length before / 2) line × (upperHalf r ≡ length line) × (after ≡ atFront (asBytes line) before)
-  only-then accepted =
-      let due = was-due accepted in
-      (commandLine q, (due .0, refl, omega (arith, due .1)), written (due .0) (due .1) .1, written (due .0) (due .1) .2)
-
-  always-then : Unit {0} → (line : List ℕ) → CommandDue q (length before / 2) line
-      → (packedNumber r ≡ 0) × (upperHalf r ≡ length line) × (after ≡ atFront (asBytes line) before)
-  always-then sent line (good, is, room) =
-      let done = written good (omega (arith, ap length is, room)) in
-      (done .0, done .1 ∙ ap length (sym is), done .2 ∙ ap (λ (l : List ℕ). atFront (asBytes l) before) (sym is))
+  written : goodQuestion q ≡ true → Fits → after ≡ atFront (asBytes (commandLine q)) before
+  written good room = done .leaves ∙ left-written (atFront (asBytes (commandLine q)) before) before _ (ap issuedNumber (is-issued good room))
 
 pub c-side-commands : CSideCommands
-c-side-commands q before = record { only-then = only-then q before; always-then = always-then q before }
+c-side-commands q before = record {
+  only-then = λ after r done accepted.
+      let due = was-due q before after r done accepted in
+      let packed = done .says ∙ ap packedIssued (is-issued q before after r done (due .0) (due .1)) in
+      (commandLine q, (due .0, refl, omega (arith, due .1)), omega (arith, packed), written q before after r done (due .0) (due .1));
+  always-then = λ after r done sent line due.
+      let fits : length (commandLine q) ≤ length before / 2 = omega (arith, ap length (due .1), due .2) in
+      let packed = done .says ∙ ap packedIssued (is-issued q before after r done (due .0) fits) in
+      let size : length line ≡ length (commandLine q) = ap length (due .1) in (
+        omega (arith, packed),
+        omega (arith, packed, size),
+        written q before after r done (due .0) fits ∙ ap (λ (l : List ℕ). atFront (asBytes l) before) (sym (due .1)),
+      );
+}

@@ -30,7 +30,7 @@ use Rattle.c_cells.specs.CellBytes.{packedCell, answerOf}
 use Rattle.c_cells.specs.CellsBytes.{roomNumber, cellsNumber}
 use Rattle.c_twin.specs.TwinBytes.{chainIn, powerNumber, stepNumber}
 use Rattle.promises.specs.ByNumber.{Row, row, NumberDue}
-use Rattle.promises.specs.CallRows.{room, commandRows, NoChain, twinRows, stepBytesRows, cellRows}
+use Rattle.promises.specs.CallRows.{room, commandRows, NoChain, NoSpan, twinRows, stepBytesRows, cellRows}
 use Rattle.promises.proofs.RowsGiven.{never}
 
 -- ---- ROOM, where it is the last row
@@ -88,7 +88,7 @@ module _ (each n size : ℕ) where
 
   -- or with devices that must be of it
   pub is-span-in : (from to : ℕ) → ((leb 1 n && leb n 32 && eqb size (each * n)) && leb from to && leb to n) ≡ true
-      → NoChain each n size ⊎ ((to < from) ⊎ (n < to)) → ⊥
+      → NoSpan each n from to size → ⊥
   is-span-in from to fits =
       let chain = leb 1 n && leb n 32 && eqb size (each * n) in
       let begun = and-left (chain && leb from to) (leb to n) fits in
@@ -97,11 +97,11 @@ module _ (each n size : ℕ) where
       (λ beyond. omega (arith, leb-true to n (and-right (chain && leb from to) (leb to n) fits))))
 
   pub is-no-span-in : (from to : ℕ) → ((leb 1 n && leb n 32 && eqb size (each * n)) && leb from to && leb to n) ≡ false
-      → NoChain each n size ⊎ ((to < from) ⊎ (n < to))
+      → NoSpan each n from to size
   is-no-span-in from to = by-tests (leb 1 n && leb n 32 && eqb size (each * n)) refl (leb from to) refl
     where
       by-tests : (t : Bool) → (leb 1 n && leb n 32 && eqb size (each * n)) ≡ t → (begun : Bool) → leb from to ≡ begun
-          → (t && begun && leb to n) ≡ false → NoChain each n size ⊎ ((to < from) ⊎ (n < to))
+          → (t && begun && leb to n) ≡ false → NoSpan each n from to size
       by-tests false is begun b e = inl (is-no-chain is)
       by-tests true is false b e = inr (inl (omega (arith, leb-false from to b)))
       by-tests true is true b e = inr (inr (omega (arith, leb-false to n e)))
@@ -147,10 +147,10 @@ step-due n device memory line out =
     (is-in-chain 256 n (length memory) device) (is-not-in-chain 256 n (length memory) device) line out
 
 pub span-due : (n from to : ℕ) (memory line out : List ℕ)
-    → NumberDue (twinRows (λ size. NoChain 256 n size ⊎ ((to < from) ⊎ (n < to))) (length memory) (length out) (length line))
+    → NumberDue (twinRows (NoSpan 256 n from to) (length memory) (length out) (length line))
     (steppedNumber (steppedOf (isSpan n from to (length memory)) line out))
 span-due n from to memory line out =
-    stepped-due (NoChain 256 n (length memory) ⊎ ((to < from) ⊎ (n < to))) (isSpan n from to (length memory))
+    stepped-due (NoSpan 256 n from to (length memory)) (isSpan n from to (length memory))
     (is-span-in 256 n (length memory) from to) (is-no-span-in 256 n (length memory) from to) line out
 
 pub step-bytes-due : (n device : ℕ) (memory line out : List ℕ)

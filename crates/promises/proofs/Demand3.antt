@@ -1,18 +1,23 @@
 -- Demand 3 is met. A damaged line that were accepted would be another answer's line; but two right answers to one question are six line bits
 -- apart with 14 devices or fewer, and four with more.
 use mathlib.Core.Path.{_≡_, refl, sym, ap, _∙_}
-use mathlib.Core.Bool.{Bool, true, false, cond}
+use mathlib.Core.Bool.{Bool, true, _&&_, _||_}
+use mathlib.Core.Logic.{_⊎_, inl, inr, ⊎-elim}
 use mathlib.Core.List.{List}
 use Prim.Native.Nat.{ℕ, zero, suc, _≤_}
 use native.Mathlib.Omega.{arith}
 use lib.Dec.{leb}
 use lib.ListN.{length}
 use borrow.Author.Tests.{leb-true}
-use Rattle.remainder.specs.Turned.{turned, weight}
+use Rattle.ground.specs.Sweep.{every}
+use Rattle.ground.proofs.Test.{and-left, and-right, or-cases}
+use Rattle.ground.proofs.Sweep.{swept}
+use Rattle.remainder.specs.Turned.{turned}
 use Rattle.lines.specs.Write.{atFront}
 use Rattle.questions.specs.Shape.{shapeAt, shapeOf}
 use Rattle.questions.specs.declared.question.Question.{Question}
 use Rattle.questions.proofs.ByKind.{of-read}
+use Rattle.questions.proofs.Good.{good-count}
 use Rattle.readings.specs.Reading.{numberOf}
 use Rattle.judging.specs.Judge.{judgeOf}
 use Rattle.reader.specs.Read.{ReadDone}
@@ -25,7 +30,22 @@ use Rattle.acceptance.proofs.AnswerIsAccepted.{answer-is-accepted}
 use Rattle.promises.specs.Demand1.{TurnedAway}
 use Rattle.promises.specs.Demand3.{ReadsAll, answerLine, Damage, mostBits, Demand3}
 use Rattle.promises.proofs.RefusedWritesNothing.{refused-read}
-use Rattle.promises.proofs.Apart.{AsksAll, asks-all, four-at-least, six-at-least}
+use Rattle.promises.proofs.Apart.{asks-all, four-at-least, six-at-least}
+
+-- three bits are promised, or five with 14 devices at most: computed for every number of devices
+few-bits : ℕ → Bool
+few-bits n = leb (mostBits n) 3 || (leb (mostBits n) 5 && leb n 14)
+
+all-few : every few-bits 33 ≡ true
+unfolding few-bits
+all-few = refl
+
+bits-for : (n : ℕ) → n ≤ 32 → (mostBits n ≤ 3) ⊎ ((mostBits n ≤ 5) × (n ≤ 14))
+unfolding few-bits
+bits-for n most =
+    ⊎-elim (λ three. inl (leb-true (mostBits n) 3 three))
+    (λ five. inr (leb-true (mostBits n) 5 (and-left _ _ five), leb-true n 14 (and-right (leb (mostBits n) 5) _ five)))
+    (or-cases (leb (mostBits n) 3) (leb (mostBits n) 5 && leb n 14) (swept few-bits 33 all-few n (omega arith)))
 
 -- a READALL asks for as many values as there are devices
 pub values-wanted : (q : Question) → q .kind ≡ 3 → shapeOf q .values ≡ q .n
@@ -78,19 +98,15 @@ module _ (q : Question) (values : List ℕ) (all : ReadsAll q values) where
   damaged : (masks : List ℕ) → Damage (answerLine q values) masks (mostBits (q .n))
       → (before after : List ℕ) (r : Reading) → ReadDone q (turned (answerLine q values) masks) before after r
       → TurnedAway (numberOf r) × (after ≡ before)
-  damaged masks d = refused masks (λ other fits w. by-count other fits w (leb (q .n) 14) refl (d .few))
-    where
-      asks : AsksAll q
-      asks = asks-all q values all
-
-      by-count : (other : List ℕ) → AllValues q other → turned (answerLine q values) masks ≡ answerLine q other
-          → (t : Bool) → leb (q .n) 14 ≡ t → weight masks ≤ cond t 5 3 → ⊥
-      by-count other fits w true small few =
-          let least = six-at-least q asks values other all-values fits masks (d .every) (d .some) w (omega (arith, leb-true (q .n) 14 small, all .number)) in
-          omega arith
-      by-count other fits w false large few =
-          let least = four-at-least q asks values other all-values fits masks (d .every) (d .some) w in
-          omega arith
+  damaged masks d =
+      refused masks (λ other fits w.
+      let asks = asks-all q values all in
+      let four = four-at-least q asks values other all-values fits masks (d .every) (d .some) w in
+      ⊎-elim (λ (three : mostBits (q .n) ≤ 3). omega (arith, d .few, four))
+      (λ both.
+      let six = six-at-least q asks values other all-values fits masks (d .every) (d .some) w (omega (arith, both .1, all .number)) in
+      omega (arith, d .few, both .0, six))
+      (bits-for (q .n) (good-count q (all .good) (omega (arith, all .kind)) .1)))
 
 pub demand-3 : Demand3
 demand-3 = record { undamaged = taken; damaged = damaged }

@@ -5,10 +5,10 @@ use mathlib.Core.Path.{_≡_, refl, sym, ap, ap₂, subst, _∙_}
 use mathlib.Core.Bool.{Bool, true, false, cond, false≢true}
 use mathlib.Core.Logic.{_⊎_, inl, inr, ⊎-elim}
 use mathlib.Core.List.{List, [], _∷_, _++_}
-use Prim.Native.Nat.{ℕ, _+_, _-_, _%_, _≤_, _<_}
+use Prim.Native.Nat.{ℕ, _+_, _%_, _≤_, _<_}
 use native.Mathlib.Omega.{arith}
 use lib.Dec.{leb}
-use lib.ListN.{length, getD, drop, length-drop}
+use lib.ListN.{length, getD, drop}
 use borrow.Author.Tests.{leb-true, leb-false}
 use Rattle.ground.proofs.Test.{refuted}
 use Rattle.remainder.specs.Turned.{Bytes}
@@ -41,7 +41,7 @@ use Rattle.bmc.specs.Exports.{packedCertified, CertificateBytesDone}
 use Rattle.promises.specs.ByNumber.{row, NumberDue}
 use Rattle.promises.specs.Rows.{readRows}
 use Rattle.promises.specs.Certificate.{linesOf}
-use Rattle.promises.specs.CallRows.{room, NoJobFile, NoEntry, certifyRows, AnsweredAbove}
+use Rattle.promises.specs.CallRows.{room, NoJobFile, NoEntry, nextRows, certifyRows, AnsweredAbove, rehearseRows}
 use Rattle.promises.proofs.Rows.{by-number}
 use Rattle.promises.proofs.CallsByNumber.{enough-room, short-of-room}
 use Rattle.promises.proofs.Certificate.{text-for, only-text}
@@ -71,17 +71,16 @@ opened-by-number file small = by-test (goodFile file) refl
     by-test false bad = inl (bad-is-no-job file bad, refl)
 
 pub next-by-number : (h : Header) (file : List ℕ) (c : Cursor) → Bytes file
-    → NumberDue (row 14 ((c .at < length file) × NoEntry h (drop (c .at) file)) ∷ []) (nextNumber (nextOf h file c))
+    → NumberDue (nextRows h (drop (c .at) file)) (nextNumber (nextOf h file c))
 unfolding nextOf
-next-by-number h file c small = by-rest (drop (c .at) file) (drop-bytes (c .at) file small) (length-drop (c .at) file)
+next-by-number h file c small = by-rest (drop (c .at) file) (drop-bytes (c .at) file small)
   where
-    by-rest : (rest : List ℕ) → Bytes rest → length rest ≡ length file - c .at
-        → NumberDue (row 14 ((c .at < length file) × NoEntry h rest) ∷ []) (nextNumber (nextIn h (c .at) rest))
-    by-rest [] few size = inr ((λ some. omega (arith, some .0)), refl)
-    by-rest (b ∷ rest) few size = by-test (goodEntry h (b ∷ rest)) refl
+    by-rest : (rest : List ℕ) → Bytes rest → NumberDue (nextRows h rest) (nextNumber (nextIn h (c .at) rest))
+    by-rest [] few = inr ((λ some. omega (arith, some .0)), refl)
+    by-rest (b ∷ rest) few = by-test (goodEntry h (b ∷ rest)) refl
       where
         by-test : (good : Bool) → goodEntry h (b ∷ rest) ≡ good
-            → NumberDue (row 14 ((c .at < length file) × NoEntry h (b ∷ rest)) ∷ []) (nextNumber (cond good (placedIn h (c .at) (b ∷ rest)) next.File))
+            → NumberDue (nextRows h (b ∷ rest)) (nextNumber (cond good (placedIn h (c .at) (b ∷ rest)) next.File))
         by-test true good = inr ((λ some. good-is-an-entry h (b ∷ rest) few good (some .1)), refl)
         by-test false bad = inl ((omega arith, bad-is-no-entry h (b ∷ rest) bad), refl)
 
@@ -182,7 +181,7 @@ not-above : (file : List ℕ) (most : ℕ) → length (rehearsalOf file) ≤ mos
 not-above file most fits over = omega (arith, fits, answered-bytes (over .0) (over .1) file (over .2), over .3)
 
 pub rehearsed-by-number : (file before : List ℕ) → Bytes file
-    → NumberDue (row 14 (NoJobFile file ⊎ AnsweredAbove file 65536) ∷ row 2 (AnsweredAbove file (length before)) ∷ []) (rehearsedNumber (rehearsedOf file before))
+    → NumberDue (rehearseRows file (length before)) (rehearsedNumber (rehearsedOf file before))
 unfolding rehearsedOf
 rehearsed-by-number file before small = by-tests (goodFile file) refl (leb bytes 65536) refl (leb bytes (length before)) refl
   where
@@ -190,7 +189,7 @@ rehearsed-by-number file before small = by-tests (goodFile file) refl (leb bytes
     bytes = length (rehearsalOf file)
 
     by-tests : (good : Bool) → goodFile file ≡ good → (short : Bool) → leb bytes 65536 ≡ short → (fits : Bool) → leb bytes (length before) ≡ fits
-        → NumberDue (row 14 (NoJobFile file ⊎ AnsweredAbove file 65536) ∷ row 2 (AnsweredAbove file (length before)) ∷ [])
+        → NumberDue (rehearseRows file (length before))
         (rehearsedNumber (cond good (cond short (cond fits (rehearsed.Bytes bytes) rehearsed.Room) rehearsed.File) rehearsed.File))
     by-tests false bad short e fits f = inl (inl (bad-is-no-job file bad), refl)
     by-tests true good false long fits f = inl (inr (above file _ small good (omega (arith, leb-false bytes 65536 long))), refl)

@@ -1,7 +1,7 @@
 -- A certificate's text is settled by its header and entries: what the reader says of an entry is one thing, and a device deserves one
 -- letter at most.
 use mathlib.Core.Path.{_≡_, refl, sym, ap, ap₂, subst, _∙_}
-use mathlib.Core.List.{List, [], _∷_, _++_, map, Forall₂, Forall₂·nil, Forall₂·cons}
+use mathlib.Core.List.{List, [], _∷_, map, Forall₂, Forall₂·nil, Forall₂·cons}
 use Prim.Native.Nat.{ℕ}
 use lib.ListN.{take, replicate}
 use Rattle.lines.specs.Write.{atFront}
@@ -12,12 +12,10 @@ use Rattle.jobs.specs.declared.Header.{Header}
 use Rattle.jobs.specs.Format.{Entry, asked}
 use Rattle.letters.specs.Letters.{Heard}
 use Rattle.letters.specs.Meaning.{Deserves}
-use Rattle.printing.specs.Text.{headLine, entryLines}
-use Rattle.listening.specs.Listening.{heardOf, numberFor}
+use Rattle.listening.specs.Listening.{heardOf}
 use Rattle.listening.proofs.OneHeard.{values-read}
-use Rattle.promises.specs.Certificate.{FromReader, linesOf, CertificateText}
+use Rattle.promises.specs.Certificate.{FromReader, linesOf, numbersOf, CertificateText}
 use Rattle.promises.proofs.OwnLetter.{same-line}
-use Rattle.promises.proofs.LinesInOrder.{lines-alike}
 
 -- ---- the entries
 
@@ -65,6 +63,5 @@ one-text h es text text′ c c′ =
     let lines : (a : ℕ) → c .line a ≡ c′ .line a = λ a.
     same-line a (c .heard) (c′ .heard) (λ v. subst (λ (xs : List Heard). Deserves xs a v) heard) (λ v. subst (λ (xs : List Heard). Deserves xs a v) (sym heard))
     (c .line a) (c′ .line a) (c .deserved a) (c′ .deserved a) in
-    c .whole ∙ ap (λ (xs : List Heard). linesOf (h .n) (map numberFor xs) (c .line)) heard
-    ∙ ap (λ (d : List ℕ). headLine (h .n) ++ (entryLines (map numberFor (c′ .heard)) ++ d)) (lines-alike (c .line) (c′ .line) 32 (λ a below. lines a))
+    c .whole ∙ ap₂ (λ (xs : List Heard) (line : ℕ → List ℕ). linesOf (h .n) (numbersOf xs) line) heard (λ i a. lines a i)
     ∙ sym (c′ .whole)

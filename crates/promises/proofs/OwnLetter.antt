@@ -17,7 +17,6 @@ use Rattle.letters.specs.Letters.{Heard, isGoodWrite, standingAfter}
 use Rattle.letters.specs.Meaning.{Deserves}
 use Rattle.letters.proofs.Meaning.{given-is-deserved, deserved-is-given}
 use Rattle.letters.proofs.OwnView.{own-view}
-use Rattle.printing.specs.Text.{deviceLine}
 use Rattle.promises.specs.Certificate.{DeviceLine, lettered, none}
 use Rattle.promises.specs.OwnLetter.{OwnLetter}
 
@@ -60,7 +59,7 @@ one-letter {xs} {a} {v} {v′} due due′ =
 -- so that its line is the same wherever it deserves the same
 pub same-line : (a : ℕ) (xs xs′ : List Heard) → ((v : ℕ) → Deserves xs a v → Deserves xs′ a v) → ((v : ℕ) → Deserves xs′ a v → Deserves xs a v)
     → (l l′ : List ℕ) → DeviceLine xs a l → DeviceLine xs′ a l′ → l ≡ l′
-same-line a xs xs′ to back _ _ (lettered v due) (lettered v′ due′) = ap (deviceLine a) (one-letter (to v due) due′)
+same-line a xs xs′ to back _ _ (lettered v due) (lettered v′ due′) = let same : v ≡ v′ = one-letter (to v due) due′ in cc
 same-line a xs xs′ to back _ _ (lettered v due) (none never) = absurd (never v (to v due))
 same-line a xs xs′ to back _ _ (none never) (lettered v due) = absurd (never v (back v due))
 same-line a xs xs′ to back _ _ (none never) (none never′) = refl

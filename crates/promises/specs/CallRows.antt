@@ -29,6 +29,10 @@ commandRows q lent = row 1 (goodQuestion q ≡ false) ∷ room lent (length (com
 abbrev pub NoChain : (each n size : ℕ) → Type 0
 NoChain each n size = (n < 1) ⊎ ((32 < n) ⊎ (size ≡ each * n → ⊥))
 
+-- or devices to be stepped, from .. to - 1, are not in the chain: their end is above the chain's, or below their beginning
+abbrev pub NoSpan : (each n from to size : ℕ) → Type 0
+NoSpan each n from to size = NoChain each n size ⊎ ((to < from) ⊎ (n < to))
+
 -- a call of the twin that is lent a memory of such a size and an output: TWIN where it is given, then ROOM
 abbrev pub twinRows : (given : (size : ℕ) → Type 0) (size lent line : ℕ) → List Row
 twinRows given size lent line = row 15 (given size) ∷ room lent line ∷ []
@@ -46,6 +50,10 @@ NoJobFile file = (h : Header) (es : List Entry) → Encodes h es file → ⊥
 abbrev pub NoEntry : Header → (rest : List ℕ) → Type 0
 NoEntry h rest = (e : Entry) (later : List ℕ) → Fits e → Keeps h e → rest ≡ entryBytes e ++ later → ⊥
 
+-- an entry taken out, where something stands (behind the last entry is no refusal)
+abbrev pub nextRows : Header → (rest : List ℕ) → List Row
+nextRows h rest = row 14 ((1 ≤ length rest) × NoEntry h rest) ∷ []
+
 -- a file certified: ROOM where its text is longer than what is lent
 abbrev pub certifyRows : (file : List ℕ) (lent : ℕ) → List Row
 certifyRows file lent = row 14 (NoJobFile file) ∷ row 2 ((text : List ℕ) × TextFor file text × (lent < length text)) ∷ []
@@ -53,6 +61,10 @@ certifyRows file lent = row 14 (NoJobFile file) ∷ row 2 ((text : List ℕ) × 
 -- a file with its answers, which are as long as the commands, has more bytes than so many
 abbrev pub AnsweredAbove : (file : List ℕ) (most : ℕ) → Type 0
 AnsweredAbove file most = (h : Header) × (es : List Entry) × Encodes h es file × (most < headSize + answeredSize h es)
+
+-- a file rehearsed: FILE also where it would be too long
+abbrev pub rehearseRows : (file : List ℕ) (lent : ℕ) → List Row
+rehearseRows file lent = row 14 (NoJobFile file ⊎ AnsweredAbove file 65536) ∷ row 2 (AnsweredAbove file lent) ∷ []
 
 -- 12 CHANNEL: cell number not 1..12; 13 LOW BITS: either low bit of a measured cell's register is 1
 abbrev pub cellRows : (mask c register : ℕ) → List Row

@@ -43,6 +43,10 @@ pub data DeviceLine (heard : List Heard) (a : ℕ) : (line : List ℕ) → Type 
 abbrev pub linesOf : (n : ℕ) (numbers : List ℕ) (line : (a : ℕ) → List ℕ) → List ℕ
 linesOf n numbers line = headLine n ++ (entryLines numbers ++ firstLines line 32)
 
+-- the number that the reader gives each entry
+abbrev pub numbersOf : List Heard → List ℕ
+numbersOf heard = map (λ (x : Heard). numberOf (x .reading)) heard
+
 -- the certificate's text for a header and entries
 pub record CertificateText (h : Header) (es : List Entry) (text : List ℕ) : Type 0 where
   -- the entries as the reader says, one by one,
@@ -52,7 +56,7 @@ pub record CertificateText (h : Header) (es : List Entry) (text : List ℕ) : Ty
   pub line : (a : ℕ) → List ℕ
   pub deserved : (a : ℕ) → DeviceLine heard a (line a)
   -- and these lines, and nothing else
-  pub whole : text ≡ linesOf (h .n) (map (λ (x : Heard). numberOf (x .reading)) heard) line
+  pub whole : text ≡ linesOf (h .n) (numbersOf heard) line
 
 -- the certificate's text for a file: the file is the encoding of a header and entries that keep the rules, and this is their text
 abbrev pub TextFor : (file text : List ℕ) → Type 0

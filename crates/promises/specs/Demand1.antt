@@ -49,7 +49,8 @@ use Rattle.bmc.specs.Exports.{CertificateBytesDone}
 use Rattle.promises.specs.ByNumber.{Row, row, NumberDue, packedNumber}
 use Rattle.promises.specs.Rows.{readRows}
 use Rattle.promises.specs.Certificate.{linesOf}
-use Rattle.promises.specs.CallRows.{room, commandRows, NoChain, twinRows, stepBytesRows, NoJobFile, NoEntry, certifyRows, AnsweredAbove, cellRows}
+use Rattle.promises.specs.CallRows.{room, commandRows, NoChain, NoSpan, twinRows, stepBytesRows}
+use Rattle.promises.specs.CallRows.{NoJobFile, NoEntry, nextRows, certifyRows, rehearseRows, cellRows}
 
 -- turned away: an answer's number is a row's, and not 0
 abbrev pub TurnedAway : (number : ℕ) → Type 0
@@ -109,17 +110,14 @@ pub record Demand1 : Type 0 where
   pub each-cell : (range : Range) (mask : ℕ) (registers : List Register) (cells : List Cell) → Returns (cellsOf range mask registers) cells
       → (k : ℕ) → k < length registers
       → NumberDue (cellRows mask (suc k) (getD registers k (record { 0 = 0 }) .0)) (cellNumber (getD cells k NotMeasured))
-  -- the twin: power-on; a step, TWIN also where its device is not in the chain; a span of devices, from .. to - 1, TWIN also where they are not:
-  -- their end is above the chain's, or below their beginning; a chain
+  -- the twin: power-on; a step, TWIN also where its device is not in the chain; a span of devices; a chain
   pub power-on : (n : ℕ) (memory : List ℕ) → Answers (row 15 (NoChain 256 n (length memory)) ∷ []) poweredNumber memory (PoweredOn n memory)
   pub step : (n device : ℕ) → Steps (twinRows (λ size. NoChain 256 n size ⊎ (n ≤ device))) steppedNumber (StepDone n device)
-  pub run-span : (n from to : ℕ) → Steps (twinRows (λ size. NoChain 256 n size ⊎ ((to < from) ⊎ (n < to)))) steppedNumber (SpanDone n from to)
+  pub run-span : (n from to : ℕ) → Steps (twinRows (NoSpan 256 n from to)) steppedNumber (SpanDone n from to)
   pub run-chain : (n : ℕ) → Steps (twinRows (NoChain 256 n)) steppedNumber (ChainDone n)
-  -- a job file opened; its entries taken out, where something stands (behind the last entry is no refusal), and one heard; a certificate printed,
-  -- FILE for more entries than a job file can have
+  -- a job file opened, its entries taken out, and one heard; a certificate printed, FILE for more entries than a job file can have
   pub open-file : (file : List ℕ) → Bytes file → Replies (row 14 (NoJobFile file) ∷ []) openedNumber (Returns (openedOf file))
-  pub next-entry : (h : Header) (file : List ℕ) (c : Cursor) → Bytes file
-      → Replies (row 14 ((c .at < length file) × NoEntry h (drop (c .at) file)) ∷ []) nextNumber (Returns (nextOf h file c))
+  pub next-entry : (h : Header) (file : List ℕ) (c : Cursor) → Bytes file → Replies (nextRows h (drop (c .at) file)) nextNumber (Returns (nextOf h file c))
   -- (heard by the reader's own rows, with room for the values of 32 devices, where the bytes begin with an entry that keeps the rules; else FILE)
   pub listen : (h : Header) (e : Entry) (later : List ℕ) (s : Standing) → Fits e → Keeps h e
       → Replies (readRows (asked h e) (e .words) 32) (λ (r : Listened). r .number) (Returns (listenOf h (entryBytes e ++ later) s))
@@ -129,11 +127,9 @@ pub record Demand1 : Type 0 where
       → Answers (row 14 (mostEntries < length numbers)
       ∷ room (length text) (length (linesOf n numbers (λ a. deviceLineIf (s .write) a (getD (s .letters) a 0)))) ∷ [])
       printedNumber text (PrintDone n numbers s text)
-  -- the certificate and the rehearsal, of every file of bytes; the rehearsal FILE also where the file with its answers would be too long
+  -- the certificate and the rehearsal, of every file of bytes
   pub certify : (file text : List ℕ) → Bytes file → Answers (certifyRows file (length text)) certifiedNumber text (CertificateDone file text)
-  pub rehearse : (file out : List ℕ) → Bytes file
-      → Answers (row 14 (NoJobFile file ⊎ AnsweredAbove file 65536) ∷ row 2 (AnsweredAbove file (length out)) ∷ []) rehearsedNumber out
-      (RehearsalDone file out)
+  pub rehearse : (file out : List ℕ) → Bytes file → Answers (rehearseRows file (length out)) rehearsedNumber out (RehearsalDone file out)
   -- the C side's calls, over bytes: an odd number of them is as no line at all, and so LENGTH; two are room for a word
   pub read-bytes : (q : Question) (line out : List ℕ) → Answers (readRows q (lineOn line) (length out / 2)) packedNumber out (ReadBytesDone q line out)
   pub pec : (bytes : List ℕ) → Replies [] (λ pec. 0) (Returns (pecOf bytes))
