@@ -2,8 +2,8 @@
 use mathlib.Core.Path.{_≡_, sym, ap, ap₂, subst, _∙_}
 use mathlib.Core.Bool.{Bool, true, _&&_}
 use mathlib.Core.Logic.{⊎-elim}
-use mathlib.Core.List.{List, _∷_, _++_}
-use Prim.Native.Nat.{ℕ, _+_, _*_, _/_, _%_, _<_, _≤_}
+use mathlib.Core.List.{List, [], _∷_, _++_}
+use Prim.Native.Nat.{ℕ, zero, suc, _+_, _*_, _/_, _%_, _<_, _≤_}
 use native.Mathlib.Omega.{arith}
 use lib.ListN.{length, getD, take, drop, length-append, length-take, length-drop, take-append-drop, List·getD-eq-default}
 use lib.Seq.{take-at, drop-at, drop-drop, getD-take, getD-drop}
@@ -20,6 +20,52 @@ use Rattle.jobs.specs.Encoded.{Fits, Keeps}
 use Rattle.jobs.specs.Check.{wordsIn, sizeIn, entryIn, goodEntry}
 use Rattle.jobs.proofs.GoodEntry.{words-number, good}
 use Rattle.jobs.proofs.Keeps.{keeps-passes, passes-keeps}
+
+-- ---- the fields of an entry that fits its bytes
+
+pub record Fields (e : Entry) : Type 0 where
+  pub kind : e .kind < 256
+  pub reg : e .reg < 256
+  pub device : e .device < 256
+  pub seed : e .seed < 256
+  pub value : e .value < 65536
+  pub words : (i : ℕ) → getD (e .words) i 0 < 65536
+
+words-wide-again : (words : List ℕ) → Bytes (asBytes words) → (i : ℕ) → getD words i 0 < 65536
+unfolding asBytes
+words-wide-again [] small i = omega arith
+words-wide-again (w ∷ words) small zero = let high : w / 256 < 256 = small 1 in omega arith
+words-wide-again (w ∷ words) small (suc i) = words-wide-again words (λ k. small (suc (suc k))) i
+
+pub fields : (e : Entry) → Fits e → Fields e
+fields e fits =
+    let high : e .value / 256 < 256 = fits 3 in
+    record {
+      kind = fits 0;
+      reg = fits 1;
+      device = fits 4;
+      seed = fits 5;
+      value = omega arith;
+      words = words-wide-again (e .words) (λ i. fits (suc (suc (suc (suc (suc (suc (suc (suc i)))))))));
+    }
+
+words-small : (words : List ℕ) → ((i : ℕ) → getD words i 0 < 65536) → Bytes (asBytes words)
+unfolding asBytes
+words-small [] wide i = omega arith
+words-small (w ∷ words) wide zero = omega arith
+words-small (w ∷ words) wide (suc zero) = let h : w < 65536 = wide 0 in omega arith
+words-small (w ∷ words) wide (suc (suc i)) = words-small words (λ k. wide (suc k)) i
+
+pub fits-by : (e : Entry) → Fields e → length (e .words) < 65536 → Fits e
+fits-by e f few zero = f .kind
+fits-by e f few (suc zero) = f .reg
+fits-by e f few (suc (suc zero)) = omega arith
+fits-by e f few (suc (suc (suc zero))) = omega (arith, f .value)
+fits-by e f few (suc (suc (suc (suc zero)))) = f .device
+fits-by e f few (suc (suc (suc (suc (suc zero))))) = f .seed
+fits-by e f few (suc (suc (suc (suc (suc (suc zero)))))) = omega arith
+fits-by e f few (suc (suc (suc (suc (suc (suc (suc zero))))))) = omega arith
+fits-by e f few (suc (suc (suc (suc (suc (suc (suc (suc i)))))))) = words-small (e .words) (f .words) i
 
 -- ---- an entry's bytes, and others behind them
 
@@ -42,7 +88,7 @@ module _ (e : Entry) (fits : Fits e) (rest : List ℕ) where
       let many : 2 * wordsIn bytes ≡ length (asBytes (e .words)) = omega (arith, says-words, length-bytes (e .words)) in
       let part : take (2 * wordsIn bytes) (asBytes (e .words) ++ rest) ≡ asBytes (e .words) = take-at (asBytes (e .words)) rest (2 * wordsIn bytes) (sym many) in
       ap₂ (λ (v : ℕ) (w : List ℕ). record { kind = e .kind; reg = e .reg; value = v; device = e .device; seed = e .seed; words = w })
-      value (ap wordsOf part ∙ words-back (e .words) (fits .words))
+      value (ap wordsOf part ∙ words-back (e .words) (fields e fits .words))
 
   -- and behind it stands the rest
   pub rest-back : drop (sizeIn bytes) bytes ≡ rest
@@ -82,7 +128,11 @@ module _ (front : List ℕ) (small : Bytes front) (whole : sizeIn front ≤ leng
   entry-fits =
       let low : getD front 2 0 < 256 = small 2 in
       let high : getD front 3 0 < 256 = small 3 in
-      record { kind = small 0; reg = small 1; device = small 4; seed = small 5; value = omega arith; words = words-wide answer answer-bytes }
+      let few : getD front 6 0 < 256 = small 6 in
+      let many : getD front 7 0 < 256 = small 7 in
+      fits-by (entryIn front)
+      (record { kind = small 0; reg = small 1; device = small 4; seed = small 5; value = omega arith; words = words-wide answer answer-bytes })
+      (omega (arith, words-number front whole))
 
   entry-again : entryBytes (entryIn front) ++ drop (sizeIn front) front ≡ front
   unfolding fieldSize

@@ -3,21 +3,17 @@ use mathlib.Core.Path.{_≡_}
 use mathlib.Core.Bool.{true}
 use mathlib.Core.Logic.{_⊎_}
 use mathlib.Core.List.{List, [], _∷_}
-use Prim.Native.Nat.{ℕ, _≤_, _<_}
-use lib.ListN.{length, getD}
+use Prim.Native.Nat.{ℕ, _≤_}
+use lib.ListN.{length}
+use Rattle.remainder.specs.Turned.{Bytes}
 use Rattle.questions.specs.Question.{helloAll, writeDevice, readAll, readDevice}
 use Rattle.jobs.specs.declared.Header.{Header}
-use Rattle.jobs.specs.Format.{Entry, fileBytes}
+use Rattle.jobs.specs.Format.{Entry, entryBytes, fileBytes}
 use Rattle.jobs.specs.Rules.{goodHeader}
 
--- each field fits its bytes
-pub record Fits (e : Entry) : Type 0 where
-  pub kind : e .kind < 256
-  pub reg : e .reg < 256
-  pub device : e .device < 256
-  pub seed : e .seed < 256
-  pub value : e .value < 65536
-  pub words : (i : ℕ) → getD (e .words) i 0 < 65536
+-- each field fits its bytes: the bytes of the entry are bytes
+abbrev pub Fits : Entry → Type 0
+Fits e = Bytes (entryBytes e)
 
 -- and keeps the rules: no more than 140 words, no kind above 4, and a field that its kind does not use is 0, the seed too where alive is off, and for
 -- HELLOALL

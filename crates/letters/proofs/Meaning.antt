@@ -12,7 +12,7 @@ use borrow.Author.Tests.{eqb-true, eqb-false, eq-eqb, ne-eqb}
 use Rattle.questions.specs.Question.{covers}
 use Rattle.questions.specs.declared.question.Question.{Question}
 use Rattle.letters.specs.Letters.{Heard, S, O, valueFor, begun, standingAfter}
-use Rattle.letters.specs.Meaning.{None, Last, goodWrite, decisive, Deserves, holds, differs, unread, Given}
+use Rattle.letters.specs.Meaning.{None, Last, goodWrite, decisive, Decided, holds, differs, unread, Deserves, Given}
 use Rattle.letters.proofs.LastOne.{search-last}
 use Rattle.letters.proofs.SinceTheWrite.{write-kept, covers-alike, letter-unread, letter-read}
 
@@ -33,8 +33,11 @@ given-is-deserved es a letter h given =
         covered : covers (w .entry .question) a ≡ true
         covered = sym (covers-alike es w a) ∙ given .covered
 
+        deserves : {letter : ℕ} → Decided (w .entry .question) a (w .after) letter → Deserves es a letter
+        deserves decided = record { write = w; covered = covered; decided = decided }
+
         by-silence : None (decisive (w .entry .question) a) (w .after) → Deserves es a (getD (standingAfter es .letters) a 0)
-        by-silence silent = subst (Deserves es a) (sym (letter-unread es w a h silent)) (unread w covered silent)
+        by-silence silent = subst (Deserves es a) (sym (letter-unread es w a h silent)) (deserves (unread silent))
 
         by-read : Last (decisive (w .entry .question) a) (w .after) → Deserves es a (getD (standingAfter es .letters) a 0)
         by-read r = subst (Deserves es a) (sym (letter-read es w a h r)) (by-value (eqb value written) refl)
@@ -46,13 +49,13 @@ given-is-deserved es a letter h given =
             written = w .entry .question .value
 
             by-value : (t : Bool) → eqb value written ≡ t → Deserves es a (cond t S O)
-            by-value true same = holds w covered r (eqb-true value written same)
-            by-value false other = differs w covered r (eqb-false value written other)
+            by-value true same = deserves (holds r (eqb-true value written same))
+            by-value false other = deserves (differs r (eqb-false value written other))
 
 pub deserved-is-given : (es : List Heard) (a letter : ℕ) → a < 32 → Deserves es a letter → Given es a letter
-deserved-is-given es a letter h (holds w covered r same) =
-    record { covered = covers-alike es w a ∙ covered; stands = letter-read es w a h r ∙ ap (λ (t : Bool). cond t S O) (eq-eqb _ _ same) }
-deserved-is-given es a letter h (differs w covered r other) =
-    record { covered = covers-alike es w a ∙ covered; stands = letter-read es w a h r ∙ ap (λ (t : Bool). cond t S O) (ne-eqb _ _ other) }
-deserved-is-given es a letter h (unread w covered silent) =
-    record { covered = covers-alike es w a ∙ covered; stands = letter-unread es w a h silent }
+deserved-is-given es a letter h due = record { covered = covers-alike es (due .write) a ∙ due .covered; stands = stands letter (due .decided) }
+  where
+    stands : (letter : ℕ) → Decided (due .write .entry .question) a (due .write .after) letter → getD (standingAfter es .letters) a 0 ≡ letter
+    stands _ (holds r same) = letter-read es (due .write) a h r ∙ ap (λ (t : Bool). cond t S O) (eq-eqb _ _ same)
+    stands _ (differs r other) = letter-read es (due .write) a h r ∙ ap (λ (t : Bool). cond t S O) (ne-eqb _ _ other)
+    stands _ (unread silent) = letter-unread es (due .write) a h silent

@@ -2,14 +2,14 @@
 -- device, that device is in both certificates or in neither, and with the same letter: other devices' values can't alter it.
 use mathlib.Core.Path.{_≡_, refl, sym, ap, ap₂, _∙_}
 use mathlib.Core.Bool.{Bool, true, false, cond, _&&_}
-use mathlib.Core.List.{List}
+use mathlib.Core.List.{List, Forall₂, Forall₂·nil, Forall₂·cons}
 use Prim.Native.Nat.{ℕ, _<_}
 use lib.ListN.{getD}
 use Rattle.ground.proofs.Test.{and-left, and-right}
 use Rattle.questions.specs.Question.{covers}
 use Rattle.questions.specs.declared.question.Question.{Question}
 use Rattle.letters.specs.Letters.{Heard, isGoodWrite, decides, verdict, unheard, begun, heardFrom, standingAfter}
-use Rattle.letters.specs.Meaning.{goodWrite, isValues, decisive, Alike, AllAlike}
+use Rattle.letters.specs.Meaning.{goodWrite, isValues, decisive, Alike}
 use Rattle.letters.specs.declared.Standing.{Standing}
 use Rattle.letters.proofs.Between.{decides-covers}
 use Rattle.letters.proofs.Entry.{heard, good-write-starts-anew, other-entry-keeps-write, nextLetter, letter-next}
@@ -54,13 +54,13 @@ module _ (a : ℕ) where
               letter = letter-next s e a h other ∙ next-letter-alike ∙ sym (letter-next s′ e′ a h (also false other));
             }
 
-  job-alike : a < 32 → (s s′ : Standing) → SameFor s s′ → {es es′ : List Heard} → AllAlike a es es′ → SameFor (heardFrom s es) (heardFrom s′ es′)
+  job-alike : a < 32 → (s s′ : Standing) → SameFor s s′ → {es es′ : List Heard} → Forall₂ (Alike a) es es′ → SameFor (heardFrom s es) (heardFrom s′ es′)
   unfolding heardFrom
-  job-alike h s s′ same AllAlike.none = same
-  job-alike h s s′ same (AllAlike.more e e′ es es′ alike rest) =
+  job-alike h s s′ same Forall₂·nil = same
+  job-alike h s s′ same (Forall₂·cons {a = e} {b = e′} alike rest) =
       job-alike h (heard s e) (heard s′ e′) (entry-alike s s′ same e e′ alike h) rest
 
-  pub own-view : a < 32 → (es es′ : List Heard) → AllAlike a es es′
+  pub own-view : a < 32 → (es es′ : List Heard) → Forall₂ (Alike a) es es′
       → (covers (standingAfter es .write) a ≡ covers (standingAfter es′ .write) a)
       × (getD (standingAfter es .letters) a 0 ≡ getD (standingAfter es′ .letters) a 0)
   own-view h es es′ alike =

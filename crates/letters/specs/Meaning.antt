@@ -40,19 +40,17 @@ isValues (Refused why) = false
 abbrev pub decisive : (write : Question) → (a : ℕ) → Heard → Bool
 decisive write a e = isValues (e .reading) && decides write (e .question) a
 
--- the letter that device a deserves, and why
-pub data Deserves (es : List Heard) (a : ℕ) : (letter : ℕ) → Type 0 where
-  holds : (w : Last goodWrite es) → covers (w .entry .question) a ≡ true
-      → (r : Last (decisive (w .entry .question) a) (w .after))
-      → valueFor (r .entry .question) a (r .entry .values) ≡ w .entry .question .value
-      → Deserves es a S
-  differs : (w : Last goodWrite es) → covers (w .entry .question) a ≡ true
-      → (r : Last (decisive (w .entry .question) a) (w .after))
-      → (valueFor (r .entry .question) a (r .entry .values) ≡ w .entry .question .value → ⊥)
-      → Deserves es a O
-  unread : (w : Last goodWrite es) → covers (w .entry .question) a ≡ true
-      → None (decisive (w .entry .question) a) (w .after)
-      → Deserves es a U
+-- the letter that the entries after a write leave device a: the latest accepted read of that register that covers the device decides
+pub data Decided (write : Question) (a : ℕ) (after : List Heard) : (letter : ℕ) → Type 0 where
+  holds : (r : Last (decisive write a) after) → valueFor (r .entry .question) a (r .entry .values) ≡ write .value → Decided write a after S
+  differs : (r : Last (decisive write a) after) → (valueFor (r .entry .question) a (r .entry .values) ≡ write .value → ⊥) → Decided write a after O
+  unread : None (decisive write a) after → Decided write a after U
+
+-- the letter that device a deserves: the last good write covers it, and what comes after leaves it that letter
+pub record Deserves (es : List Heard) (a letter : ℕ) : Type 0 where
+  pub write : Last goodWrite es
+  pub covered : covers (write .entry .question) a ≡ true
+  pub decided : Decided (write .entry .question) a (write .after) letter
 
 -- the certificate gives device a this letter: a device that the standing write covers has the letter that stands
 pub record Given (es : List Heard) (a letter : ℕ) : Type 0 where
@@ -65,7 +63,3 @@ pub record Alike (a : ℕ) (e e′ : Heard) : Type 0 where
   pub question : e .question ≡ e′ .question
   pub accepted : isValues (e .reading) ≡ isValues (e′ .reading)
   pub own : isValues (e .reading) ≡ true → covers (e .question) a ≡ true → valueFor (e .question) a (e .values) ≡ valueFor (e′ .question) a (e′ .values)
-
-pub data AllAlike (a : ℕ) : (es es′ : List Heard) → Type 0 where
-  none : AllAlike a [] []
-  more : (e e′ : Heard) (es es′ : List Heard) → Alike a e e′ → AllAlike a es es′ → AllAlike a (e ∷ es) (e′ ∷ es′)

@@ -1,6 +1,7 @@
 -- How far the right answers to one READALL question are apart on the line: twice as many bits as their values, with the check byte, and
 -- the two PECs differ in. The first two bytes and the alive byte are the same in all of them.
 use mathlib.Core.Path.{_≡_, sym, ap, ap₂, _∙_}
+use mathlib.Core.Bool.{true}
 use mathlib.Core.List.{List, [], _∷_, _++_}
 use Prim.Native.Nat.{ℕ, _+_, _*_, _≤_}
 use native.Mathlib.Omega.{arith}
@@ -15,16 +16,17 @@ use Rattle.pec.specs.Distance.{apartBy}
 use Rattle.pec.proofs.Distance.{distance-two, distance-three}
 use Rattle.lines.specs.Line.{lineOf}
 use Rattle.lines.proofs.LineDistance.{line-distance}
+use Rattle.questions.specs.Question.{readAll, goodQuestion}
 use Rattle.questions.specs.Shape.{shapeOf}
 use Rattle.questions.specs.Bytes.{onWire, aliveByte, sealed, readCovered, answerBytes}
 use Rattle.questions.specs.declared.question.Question.{Question}
 use Rattle.questions.proofs.ByKind.{of-read}
 use Rattle.questions.proofs.Good.{good-alive, good-first}
-use Rattle.acceptance.specs.Answer.{Registers, AllValues}
+use Rattle.acceptance.specs.Answer.{Registers, Sendable, AllValues}
 use Rattle.questions.proofs.Wire.{length-wire}
 use Rattle.acceptance.proofs.Wire.{bytes-append, bytes-cons, no-bytes, wire-bytes}
 use Rattle.acceptance.proofs.Sealed.{length-sealed, sealed-bytes}
-use Rattle.promises.specs.Demand3.{AsksAll, answerLine}
+use Rattle.promises.specs.Demand3.{ReadsAll, answerLine}
 
 -- the bytes that can differ between two answers to one question: the values and the check byte
 abbrev pub varied : List ℕ → List ℕ
@@ -35,6 +37,15 @@ length-varied values = omega (arith, length-append (onWire values) (0 ∷ []), l
 
 pub varied-bytes : (values : List ℕ) → Registers values → Bytes (varied values)
 varied-bytes values r = bytes-append (onWire values) (0 ∷ []) (wire-bytes values r) (bytes-cons 0 [] (omega arith) no-bytes)
+
+-- of a READALL with its values, what is said of the question alone
+pub record AsksAll (q : Question) : Type 0 where
+  pub kind : q .kind ≡ readAll
+  pub good : goodQuestion q ≡ true
+  pub sends : Sendable q
+
+pub asks-all : (q : Question) (values : List ℕ) → ReadsAll q values → AsksAll q
+asks-all q values all = record { kind = all .kind; good = all .good; sends = all .sends }
 
 module _ (q : Question) (asks : AsksAll q) where
   -- the start state that the first two bytes leave, the same for every answer

@@ -19,26 +19,26 @@ use Rattle.promises.specs.ByNumber.{Row, row, NumberDue}
 -- two numbers that are due are the same
 pub one-due : (rows : List Row) {m n : ℕ} → NumberDue rows m → NumberDue rows n → m ≡ n
 one-due [] due due′ = due ∙ sym due′
-one-due (first ∷ rows) (inl g) (inl h) = g .1 ∙ sym (h .1)
-one-due (first ∷ rows) (inl g) (inr f) = absurd (f .0 (g .0))
-one-due (first ∷ rows) (inr e) (inl h) = absurd (e .0 (h .0))
-one-due (first ∷ rows) (inr e) (inr f) = one-due rows (e .1) (f .1)
+one-due (row number given ∷ rows) (inl g) (inl h) = g .1 ∙ sym (h .1)
+one-due (row number given ∷ rows) (inl g) (inr f) = absurd (f .0 (g .0))
+one-due (row number given ∷ rows) (inr e) (inl h) = absurd (e .0 (h .0))
+one-due (row number given ∷ rows) (inr e) (inr f) = one-due rows (e .1) (f .1)
 
 -- rows whose numbers are below 256, and so the one that is due
 abbrev pub Small : List Row → Type 0
 Small [] = Unit
-Small (first ∷ rows) = (first .number < 256) × Small rows
+Small (row number given ∷ rows) = (number < 256) × Small rows
 
 pub below-256 : (rows : List Row) (number : ℕ) → Small rows → NumberDue rows number → number < 256
-below-256 [] number small due = omega (arith, due)
-below-256 (first ∷ rows) number small (inl due) = omega (arith, small .0, due .1)
-below-256 (first ∷ rows) number small (inr due) = below-256 rows number (small .1) (due .1)
+below-256 [] due small is = omega (arith, is)
+below-256 (row number given ∷ rows) due small (inl is) = omega (arith, small .0, is .1)
+below-256 (row number given ∷ rows) due small (inr is) = below-256 rows due (small .1) (is .1)
 
 -- ---- a check that is given exactly where a row is
 
 abbrev pub Says : Row → Screened → Type 0
-Says r Passed = r .given → ⊥
-Says r (Faulty why) = (refusalNumber why ≡ r .number) × r .given
+Says (row number given) Passed = given → ⊥
+Says (row number given) (Faulty why) = (refusalNumber why ≡ number) × given
 
 pub asks : (number : ℕ) (given : Type 0) (why : Refusal) (t : Bool) → refusalNumber why ≡ number → (t ≡ false → given) → (t ≡ true → given → ⊥)
     → Says (row number given) (givenUnless why t)
@@ -59,5 +59,5 @@ pub data Alike : List Row → List Screened → Type 1 where
 pub first-given : (rows : List Row) (checks : List Screened) → Alike rows checks → (taken : Reading) → numberOf taken ≡ 0
     → NumberDue rows (numberOf (said (firstFault checks) taken))
 first-given [] [] end taken zero = zero
-first-given (r ∷ rows) (Passed ∷ checks) (next says others) taken zero = inr (says, first-given rows checks others taken zero)
-first-given (r ∷ rows) (Faulty why ∷ checks) (next says others) taken zero = inl (says .1, says .0)
+first-given (row number given ∷ rows) (Passed ∷ checks) (next says others) taken zero = inr (says, first-given rows checks others taken zero)
+first-given (row number given ∷ rows) (Faulty why ∷ checks) (next says others) taken zero = inl (says .1, says .0)

@@ -1,5 +1,5 @@
 -- Which number is due, call by call: the tests that a definition makes, in their order, are the rows' conditions.
-use mathlib.Core.Path.{_≡_, refl, sym, _∙_}
+use mathlib.Core.Path.{_≡_, refl, sym}
 use mathlib.Core.Bool.{Bool, true, false, cond, _&&_, false≢true}
 use mathlib.Core.Logic.{_⊎_, inl, inr, ⊎-elim}
 use mathlib.Core.List.{List, [], _∷_}
@@ -30,12 +30,8 @@ use Rattle.c_cells.specs.CellBytes.{packedCell, answerOf}
 use Rattle.c_cells.specs.CellsBytes.{roomNumber, cellsNumber}
 use Rattle.c_twin.specs.TwinBytes.{chainIn, powerNumber, bytesNumber}
 use Rattle.promises.specs.ByNumber.{Row, row, NumberDue}
-use Rattle.promises.specs.CallRows.{room, commandRows, NoChain, NoSpan, powerOnRows, chainRows, stepRows, spanRows, overBytesRows, stepBytesRows, runBytesRows, cellRows, cellIntoRows, cellsIntoRows}
-use Rattle.promises.proofs.RowsGiven.{bad-question, good-question}
-
--- a test cannot have come out both ways
-not-both : {t : Bool} → t ≡ true → t ≡ false → ⊥
-not-both is not = false≢true (sym not ∙ is)
+use Rattle.promises.specs.CallRows.{room, commandRows, NoChain, NoSpan, twinRows, twinBytesRows, cellRows}
+use Rattle.promises.proofs.RowsGiven.{never}
 
 -- ---- ROOM, where it is the last row
 
@@ -53,9 +49,9 @@ command-due q lent = by-tests (goodQuestion q) refl (leb (length (commandLine q)
   where
     by-tests : (good : Bool) → goodQuestion q ≡ good → (fits : Bool) → leb (length (commandLine q)) lent ≡ fits
         → NumberDue (commandRows q lent) (issuedNumber (cond good (cond fits (Words (length (commandLine q))) Room) Question))
-    by-tests true good true fits = inr (good-question q good, enough-room lent (length (commandLine q)) fits)
-    by-tests true good false short = inr (good-question q good, short-of-room lent (length (commandLine q)) short)
-    by-tests false bad fits e = inl (bad-question q bad, refl)
+    by-tests true good true fits = inr (never good, enough-room lent (length (commandLine q)) fits)
+    by-tests true good false short = inr (never good, short-of-room lent (length (commandLine q)) short)
+    by-tests false bad fits e = inl (bad, refl)
 
 -- ---- the twin
 
@@ -110,19 +106,19 @@ module _ (each n size : ℕ) where
       by-tests true is false b e = inr (inl (omega (arith, leb-false from to b)))
       by-tests true is true b e = inr (inr (omega (arith, leb-false to n e)))
 
-pub powered-due : (n : ℕ) (memory : List ℕ) → NumberDue (powerOnRows 256 n (length memory)) (poweredNumber (poweredOf n memory))
+pub powered-due : (n : ℕ) (memory : List ℕ) → NumberDue (row 15 (NoChain 256 n (length memory)) ∷ []) (poweredNumber (poweredOf n memory))
 unfolding poweredOf
 powered-due n memory = by-test (isChain n (length memory)) refl
   where
     by-test : (fits : Bool) → isChain n (length memory) ≡ fits
-        → NumberDue (powerOnRows 256 n (length memory)) (poweredNumber (cond fits powered.On powered.Twin))
+        → NumberDue (row 15 (NoChain 256 n (length memory)) ∷ []) (poweredNumber (cond fits powered.On powered.Twin))
     by-test true fits = inr (is-chain 256 n (length memory) fits, refl)
     by-test false not = inl (is-no-chain 256 n (length memory) not, refl)
 
-pub powered-bytes-due : (n bytes : ℕ) → NumberDue (powerOnRows 512 n bytes) (powerNumber n bytes)
+pub powered-bytes-due : (n bytes : ℕ) → NumberDue (row 15 (NoChain 512 n bytes) ∷ []) (powerNumber n bytes)
 powered-bytes-due n bytes = by-test (chainIn n bytes) refl
   where
-    by-test : (fits : Bool) → chainIn n bytes ≡ fits → NumberDue (powerOnRows 512 n bytes) (cond fits 0 15)
+    by-test : (fits : Bool) → chainIn n bytes ≡ fits → NumberDue (row 15 (NoChain 512 n bytes) ∷ []) (cond fits 0 15)
     by-test true fits = inr (is-chain 512 n bytes fits, refl)
     by-test false not = inl (is-no-chain 512 n bytes not, refl)
 
@@ -139,32 +135,32 @@ module _ (given : Type 0) (fits : Bool) (chain : fits ≡ true → given → ⊥
       by-tests false is enough e = inl (no-chain is, refl)
 
 pub chain-due : (n : ℕ) (memory line out : List ℕ)
-    → NumberDue (chainRows n (length memory) (length out) (length line)) (steppedNumber (steppedOf (isChain n (length memory)) line out))
+    → NumberDue (twinRows (NoChain 256 n) (length memory) (length out) (length line)) (steppedNumber (steppedOf (isChain n (length memory)) line out))
 chain-due n memory line out =
     stepped-due (NoChain 256 n (length memory)) (isChain n (length memory)) (is-chain 256 n (length memory)) (is-no-chain 256 n (length memory)) line out
 
 pub step-due : (n device : ℕ) (memory line out : List ℕ)
-    → NumberDue (stepRows n device (length memory) (length out) (length line))
+    → NumberDue (twinRows (λ size. NoChain 256 n size ⊎ (n ≤ device)) (length memory) (length out) (length line))
     (steppedNumber (steppedOf (isChain n (length memory) && ltb device n) line out))
 step-due n device memory line out =
     stepped-due (NoChain 256 n (length memory) ⊎ (n ≤ device)) (isChain n (length memory) && ltb device n)
     (is-in-chain 256 n (length memory) device) (is-not-in-chain 256 n (length memory) device) line out
 
 pub span-due : (n from to : ℕ) (memory line out : List ℕ)
-    → NumberDue (spanRows n from to (length memory) (length out) (length line))
+    → NumberDue (twinRows (NoSpan 256 n from to) (length memory) (length out) (length line))
     (steppedNumber (steppedOf (isSpan n from to (length memory)) line out))
 span-due n from to memory line out =
     stepped-due (NoSpan 256 n from to (length memory)) (isSpan n from to (length memory))
     (is-span-in 256 n (length memory) from to) (is-no-span-in 256 n (length memory) from to) line out
 
 -- and over bytes, then LENGTH
-module _ (given : Type 0) (fits : Bool) (chain : fits ≡ true → given → ⊥) (no-chain : fits ≡ false → given) (line out : List ℕ) where
-  over-bytes-due : NumberDue (overBytesRows given (length out) (length line)) (bytesNumber fits line out)
+module _ (given : ℕ → Type 0) (size : ℕ) (fits : Bool) (chain : fits ≡ true → given size → ⊥) (no-chain : fits ≡ false → given size) (line out : List ℕ) where
+  over-bytes-due : NumberDue (twinBytesRows given size (length out) (length line)) (bytesNumber fits line out)
   unfolding bytesNumber
   over-bytes-due = by-tests fits refl (leb (length line / 2) (length out / 2)) refl (eqb (length line % 2) 0) refl
     where
       by-tests : (t : Bool) → fits ≡ t → (enough : Bool) → leb (length line / 2) (length out / 2) ≡ enough → (even : Bool) → eqb (length line % 2) 0 ≡ even
-          → NumberDue (overBytesRows given (length out) (length line)) (cond t (cond enough (cond even 0 3) 2) 15)
+          → NumberDue (twinBytesRows given size (length out) (length line)) (cond t (cond enough (cond even 0 3) 2) 15)
       by-tests false is enough e even v = inl (no-chain is, refl)
       by-tests true is false e even v = inr (chain is, inl (omega (arith, leb-false (length line / 2) (length out / 2) e), refl))
       by-tests true is true e true v =
@@ -176,15 +172,16 @@ module _ (given : Type 0) (fits : Bool) (chain : fits ≡ true → given → ⊥
           inr (chain is, inr ((λ short. omega (arith, leb-true (length line / 2) (length out / 2) e)), inl (eqb-false (length line % 2) 0 v, refl)))
 
 pub step-bytes-due : (n device : ℕ) (memory line out : List ℕ)
-    → NumberDue (stepBytesRows n device (length memory) (length out) (length line)) (bytesNumber (chainIn n (length memory) && ltb device n) line out)
+    → NumberDue (twinBytesRows (λ size. NoChain 512 n size ⊎ (n ≤ device)) (length memory) (length out) (length line))
+    (bytesNumber (chainIn n (length memory) && ltb device n) line out)
 step-bytes-due n device memory line out =
-    over-bytes-due (NoChain 512 n (length memory) ⊎ (n ≤ device)) (chainIn n (length memory) && ltb device n)
+    over-bytes-due (λ size. NoChain 512 n size ⊎ (n ≤ device)) (length memory) (chainIn n (length memory) && ltb device n)
     (is-in-chain 512 n (length memory) device) (is-not-in-chain 512 n (length memory) device) line out
 
 pub run-bytes-due : (n : ℕ) (memory line out : List ℕ)
-    → NumberDue (runBytesRows n (length memory) (length out) (length line)) (bytesNumber (chainIn n (length memory)) line out)
+    → NumberDue (twinBytesRows (NoChain 512 n) (length memory) (length out) (length line)) (bytesNumber (chainIn n (length memory)) line out)
 run-bytes-due n memory line out =
-    over-bytes-due (NoChain 512 n (length memory)) (chainIn n (length memory)) (is-chain 512 n (length memory)) (is-no-chain 512 n (length memory)) line out
+    over-bytes-due (NoChain 512 n) (length memory) (chainIn n (length memory)) (is-chain 512 n (length memory)) (is-no-chain 512 n (length memory)) line out
 
 -- ---- cells
 
@@ -203,7 +200,7 @@ cell-due range mask c register = by-tests (leb 1 c) refl (leb c 12) refl (enable
         (cell.Refused cell-refusal.Channel)))
     by-tests false l high h on o clear k = inl (inl (omega (arith, leb-false 1 c l)), refl)
     by-tests true l false h on o clear k = inl (inr (omega (arith, leb-false c 12 h)), refl)
-    by-tests true l true h false o clear k = inr (inside l h, inr ((λ low. not-both (low .0) o), refl))
+    by-tests true l true h false o clear k = inr (inside l h, inr ((λ low. never (low .0) o), refl))
     by-tests true l true h true o true k = inr (inside l h, inr ((λ low. low .1 (eqb-true (register % 4) 0 k)), refl))
     by-tests true l true h true o false k = inr (inside l h, inl ((o, eqb-false (register % 4) 0 k), refl))
 
@@ -214,15 +211,15 @@ packed-number cell.NotMeasured = refl
 packed-number (cell.Refused cell-refusal.Channel) = refl
 packed-number (cell.Refused cell-refusal.LowBits) = refl
 
-pub cell-into-due : (c mask register bipolar : ℕ) → NumberDue (cellIntoRows bipolar mask c register) (answerOf c mask register bipolar % 256)
+pub cell-into-due : (c mask register bipolar : ℕ) → NumberDue (row 1 (2 ≤ bipolar) ∷ cellRows mask c register) (answerOf c mask register bipolar % 256)
 unfolding answerOf
 cell-into-due c mask register bipolar = by-tests (eqb bipolar 0) refl (eqb bipolar 1) refl
   where
-    of : (range : Range) → (2 ≤ bipolar → ⊥) → NumberDue (cellIntoRows bipolar mask c register) (packedCell (cellOf range mask c register) % 256)
+    of : (range : Range) → (2 ≤ bipolar → ⊥) → NumberDue (row 1 (2 ≤ bipolar) ∷ cellRows mask c register) (packedCell (cellOf range mask c register) % 256)
     of range small = inr (small, rw (packed-number (cellOf range mask c register)) (cell-due range mask c register))
 
     by-tests : (uni : Bool) → eqb bipolar 0 ≡ uni → (bi : Bool) → eqb bipolar 1 ≡ bi
-        → NumberDue (cellIntoRows bipolar mask c register)
+        → NumberDue (row 1 (2 ≤ bipolar) ∷ cellRows mask c register)
         (cond uni (packedCell (cellOf Unipolar mask c register)) (cond bi (packedCell (cellOf Bipolar mask c register)) 1) % 256)
     by-tests true u bi b = of Unipolar (λ many. omega (arith, eqb-true bipolar 0 u))
     by-tests false u true b = of Bipolar (λ many. omega (arith, eqb-true bipolar 1 b))
@@ -232,8 +229,11 @@ cell-into-due c mask register bipolar = by-tests (eqb bipolar 0) refl (eqb bipol
         inl (omega (arith, not-0, not-1), refl)
 
 module _ (bipolar : ℕ) (registers : List ℕ) (microvolts : List ℤ) (volts : List Float) (answers : List ℕ) where
-  pub cells-into-due : NumberDue (cellsIntoRows bipolar (length registers) (length microvolts) (length volts) (length answers))
-      (cellsNumber bipolar registers microvolts volts answers)
+  abbrev pub cellsRows : List Row
+  cellsRows =
+      row 1 (2 ≤ bipolar) ∷ row 2 ((length microvolts < 12) ⊎ ((length volts < 12) ⊎ (length answers < 12))) ∷ row 3 (length registers ≡ 24 → ⊥) ∷ []
+
+  pub cells-into-due : NumberDue cellsRows (cellsNumber bipolar registers microvolts volts answers)
   unfolding cellsNumber roomNumber
   cells-into-due =
       by-tests (eqb bipolar 0) refl (eqb bipolar 1) refl (leb 12 (length microvolts)) refl (leb 12 (length volts)) refl (leb 12 (length answers)) refl
@@ -241,7 +241,7 @@ module _ (bipolar : ℕ) (registers : List ℕ) (microvolts : List ℤ) (volts :
     where
       named : (2 ≤ bipolar → ⊥) → (m : Bool) → leb 12 (length microvolts) ≡ m → (v : Bool) → leb 12 (length volts) ≡ v
           → (a : Bool) → leb 12 (length answers) ≡ a → (all : Bool) → eqb (length registers) 24 ≡ all
-          → NumberDue (cellsIntoRows bipolar (length registers) (length microvolts) (length volts) (length answers)) (cond (m && v && a) (cond all 0 3) 2)
+          → NumberDue cellsRows (cond (m && v && a) (cond all 0 3) 2)
       named small false m v w a b all l = inr (small, inl (inl (omega (arith, leb-false 12 (length microvolts) m)), refl))
       named small true m false v a b all l = inr (small, inl (inr (inl (omega (arith, leb-false 12 (length volts) v))), refl))
       named small true m true v false a all l = inr (small, inl (inr (inr (omega (arith, leb-false 12 (length answers) a))), refl))
@@ -258,7 +258,7 @@ module _ (bipolar : ℕ) (registers : List ℕ) (microvolts : List ℤ) (volts :
 
       by-tests : (uni : Bool) → eqb bipolar 0 ≡ uni → (bi : Bool) → eqb bipolar 1 ≡ bi → (m : Bool) → leb 12 (length microvolts) ≡ m
           → (v : Bool) → leb 12 (length volts) ≡ v → (a : Bool) → leb 12 (length answers) ≡ a → (all : Bool) → eqb (length registers) 24 ≡ all
-          → NumberDue (cellsIntoRows bipolar (length registers) (length microvolts) (length volts) (length answers))
+          → NumberDue cellsRows
           (cond uni (cond (m && v && a) (cond all 0 3) 2) (cond bi (cond (m && v && a) (cond all 0 3) 2) 1))
       by-tests true u bi b m e v f a g all l = named (λ many. omega (arith, eqb-true bipolar 0 u)) m e v f a g all l
       by-tests false u true b m e v f a g all l = named (λ many. omega (arith, eqb-true bipolar 1 b)) m e v f a g all l

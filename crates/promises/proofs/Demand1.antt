@@ -3,7 +3,8 @@
 use mathlib.Core.Path.{_≡_, refl, sym, ap, _∙_, subst}
 use mathlib.Core.Bool.{Bool, true, false, cond, _&&_}
 use mathlib.Core.List.{List, [], _∷_}
-use Prim.Native.Nat.{ℕ, suc, _+_, _/_, _%_, _<_}
+use mathlib.Core.Logic.{_⊎_}
+use Prim.Native.Nat.{ℕ, suc, _+_, _/_, _%_, _≤_, _<_}
 use native.Mathlib.Omega.{arith}
 use lib.Dec.{leb, ltb, lit<}
 use lib.ListN.{length, getD}
@@ -30,14 +31,14 @@ use Rattle.c_commands.specs.CommandBytes.{packedIssued}
 use Rattle.c_twin.specs.TwinBytes.{chainIn, powerNumber, bytesNumber}
 use Rattle.c_cells.specs.CellsBytes.{cellsNumber}
 use Rattle.c_cells.proofs.EachCell.{cells-number, cell-at}
-use Rattle.promises.specs.ByNumber.{Row, NumberDue}
+use Rattle.promises.specs.ByNumber.{Row, row, NumberDue, packedNumber}
 use Rattle.promises.specs.Rows.{readRows}
-use Rattle.promises.specs.CallRows.{room, commandRows, powerOnRows, stepBytesRows, runBytesRows, cellRows, cellsIntoRows}
-use Rattle.promises.specs.Demand1.{TurnedAway, packedNumber, Answers, Demand1}
+use Rattle.promises.specs.CallRows.{room, commandRows, NoChain, twinBytesRows, cellRows}
+use Rattle.promises.specs.Demand1.{TurnedAway, Answers, Demand1}
 use Rattle.promises.proofs.ByNumber.{Small, below-256}
 use Rattle.promises.proofs.Rows.{by-number}
 use Rattle.promises.proofs.CallsByNumber.{enough-room, short-of-room, command-due, powered-due, powered-bytes-due, chain-due, step-due, span-due}
-use Rattle.promises.proofs.CallsByNumber.{step-bytes-due, run-bytes-due, cell-due, cell-into-due, cells-into-due}
+use Rattle.promises.proofs.CallsByNumber.{step-bytes-due, run-bytes-due, cell-due, cell-into-due, cellsRows, cells-into-due}
 use Rattle.promises.proofs.JobNumbers.{opened-by-number, next-by-number, listened-by-number, nothing-by-number, printed-by-number}
 use Rattle.promises.proofs.JobNumbers.{certified-by-number, certificate-bytes-by-number, rehearsed-by-number}
 use Rattle.promises.proofs.RefusedWritesNothing.{refused-read, refused-command, refused-power-on, refused-step}
@@ -170,21 +171,21 @@ demand-1 = record {
   cells-into = λ enabled bipolar registers microvolts volts answers.
       one (record { says = refl; microvolts = refl; volts = refl; answers = refl })
       (λ after r done. (done .says, three (done .microvolts, done .volts, done .answers)))
-      (small-due (cellsIntoRows bipolar (length registers) (length microvolts) (length volts) (length answers))
+      (small-due (cellsRows bipolar registers microvolts volts answers)
       (cellsNumber bipolar registers microvolts volts answers) (lit< tt, (lit< tt, (lit< tt, tt))) (cells-into-due bipolar registers microvolts volts answers))
       (λ after r done away. three (refused-cells enabled bipolar registers microvolts (after .0) volts (after .1) answers (after .2) r done away));
   each-cell-into = own-cell;
   power-on-bytes = λ n memory.
       one (record { says = refl; leaves = refl }) (λ after r done. (done .says, done .leaves))
-      (small-due (powerOnRows 512 n (length memory)) (powerNumber n (length memory)) (lit< tt, tt) (powered-bytes-due n (length memory))) (refused-power-bytes n memory);
+      (small-due (row 15 (NoChain 512 n (length memory)) ∷ []) (powerNumber n (length memory)) (lit< tt, tt) (powered-bytes-due n (length memory))) (refused-power-bytes n memory);
   step-bytes = λ n device memory line out.
       one (record { says = refl; remembers = refl; leaves = refl }) (λ after r done. (done .says, both (done .remembers, done .leaves)))
-      (small-due (stepBytesRows n device (length memory) (length out) (length line)) (bytesNumber (chainIn n (length memory) && ltb device n) line out)
+      (small-due (twinBytesRows (λ size. NoChain 512 n size ⊎ (n ≤ device)) (length memory) (length out) (length line)) (bytesNumber (chainIn n (length memory) && ltb device n) line out)
       (lit< tt, (lit< tt, (lit< tt, tt))) (step-bytes-due n device memory line out))
       (λ after r done away. both (refused-steps _ _ memory (after .0) line out (after .1) r done away));
   run-bytes = λ n memory line out.
       one (record { says = refl; remembers = refl; leaves = refl }) (λ after r done. (done .says, both (done .remembers, done .leaves)))
-      (small-due (runBytesRows n (length memory) (length out) (length line)) (bytesNumber (chainIn n (length memory)) line out)
+      (small-due (twinBytesRows (NoChain 512 n) (length memory) (length out) (length line)) (bytesNumber (chainIn n (length memory)) line out)
       (lit< tt, (lit< tt, (lit< tt, tt))) (run-bytes-due n memory line out))
       (λ after r done away. both (refused-steps _ _ memory (after .0) line out (after .1) r done away));
   certificate-bytes = λ file text small.

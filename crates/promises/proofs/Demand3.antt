@@ -1,15 +1,23 @@
 -- Demand 3 is met. A damaged line that were accepted would be another answer's line; but two right answers to one question are six line bits
 -- apart with 14 devices or fewer, and four with more.
 use mathlib.Core.Path.{_≡_, refl, sym, ap, _∙_}
+use mathlib.Core.Bool.{Bool, true, _&&_, _||_}
+use mathlib.Core.Logic.{_⊎_, inl, inr, ⊎-elim}
 use mathlib.Core.List.{List}
 use Prim.Native.Nat.{ℕ, zero, suc, _≤_}
 use native.Mathlib.Omega.{arith}
+use lib.Dec.{leb}
 use lib.ListN.{length}
+use borrow.Author.Tests.{leb-true}
+use Rattle.ground.specs.Sweep.{every}
+use Rattle.ground.proofs.Test.{and-left, and-right, or-cases}
+use Rattle.ground.proofs.Sweep.{swept}
 use Rattle.remainder.specs.Turned.{turned}
 use Rattle.lines.specs.Write.{atFront}
 use Rattle.questions.specs.Shape.{shapeAt, shapeOf}
 use Rattle.questions.specs.declared.question.Question.{Question}
 use Rattle.questions.proofs.ByKind.{of-read}
+use Rattle.questions.proofs.Good.{good-count}
 use Rattle.readings.specs.Reading.{numberOf}
 use Rattle.judging.specs.Judge.{judgeOf}
 use Rattle.reader.specs.Read.{ReadDone}
@@ -20,9 +28,24 @@ use Rattle.acceptance.specs.Answer.Fitting.{hello, write, read}
 use Rattle.acceptance.proofs.AcceptedIsAnAnswer.{accepted-is-an-answer}
 use Rattle.acceptance.proofs.AnswerIsAccepted.{answer-is-accepted}
 use Rattle.promises.specs.Demand1.{TurnedAway}
-use Rattle.promises.specs.Demand3.{ReadsAll, answerLine, Demand3}
+use Rattle.promises.specs.Demand3.{ReadsAll, answerLine, Damage, mostBits, Demand3}
 use Rattle.promises.proofs.RefusedWritesNothing.{refused-read}
-use Rattle.promises.proofs.Apart.{four-at-least, six-at-least}
+use Rattle.promises.proofs.Apart.{asks-all, four-at-least, six-at-least}
+
+-- three bits are promised, or five with 14 devices at most: computed for every number of devices
+few-bits : ℕ → Bool
+few-bits n = leb (mostBits n) 3 || (leb (mostBits n) 5 && leb n 14)
+
+all-few : every few-bits 33 ≡ true
+unfolding few-bits
+all-few = refl
+
+bits-for : (n : ℕ) → n ≤ 32 → (mostBits n ≤ 3) ⊎ ((mostBits n ≤ 5) × (n ≤ 14))
+unfolding few-bits
+bits-for n most =
+    ⊎-elim (λ three. inl (leb-true (mostBits n) 3 three))
+    (λ five. inr (leb-true (mostBits n) 5 (and-left _ _ five), leb-true n 14 (and-right (leb (mostBits n) 5) _ five)))
+    (or-cases (leb (mostBits n) 3) (leb (mostBits n) 5 && leb n 14) (swept few-bits 33 all-few n (omega arith)))
 
 -- a READALL asks for as many values as there are devices
 pub values-wanted : (q : Question) → q .kind ≡ 3 → shapeOf q .values ≡ q .n
@@ -31,17 +54,17 @@ values-wanted q is = ap (λ (k : ℕ). shapeAt k q .values) is
 
 module _ (q : Question) (values : List ℕ) (all : ReadsAll q values) where
   pub all-values : AllValues q values
-  all-values = record { number = all .number ∙ sym (values-wanted q (all .asks .kind)); registers = all .registers }
+  all-values = record { number = all .number ∙ sym (values-wanted q (all .kind)); registers = all .registers }
 
   -- undamaged, it is accepted, and each device's register stands once at the front of the output, in address order
-  taken : (before after : List ℕ) (r : Reading) → q .n ≤ length before → ReadDone q (answerLine q values) before after r
+  taken : (before after : List ℕ) (r : Reading) → length values ≤ length before → ReadDone q (answerLine q values) before after r
       → (r ≡ Values (q .n)) × (after ≡ atFront values before)
   taken before after r room done =
-      let is = all .asks .kind in
+      let is = all .kind in
       let wanted = values-wanted q is in
       let line = answerLine q values in
       let sent : AnswerTo q values line = record { fitting = read (omega arith) (omega arith) all-values; written = refl } in
-      let answered = answer-is-accepted q (all .asks .good) (all .asks .sends) (length before) (omega (arith, wanted)) values line sent in (
+      let answered = answer-is-accepted q (all .good) (all .sends) (length before) (omega (arith, wanted, all .number)) values line sent in (
         done .says ∙ answered .0 ∙ of-read (q .kind) _ _ _ (omega arith) ∙ ap Values wanted,
         done .leaves ∙ ap (λ (l : List ℕ). atFront l before) (answered .1 ∙ of-read (q .kind) _ _ _ (omega arith)),
       )
@@ -61,8 +84,8 @@ module _ (q : Question) (values : List ℕ) (all : ReadsAll q values) where
       judged = judgeOf q damaged (length before)
 
       by-fitting : (other : List ℕ) → Fitting q other → damaged ≡ answerLine q other → ⊥
-      by-fitting other (hello e c) w = omega (arith, all .asks .kind)
-      by-fitting other (write lo hi e) w = omega (arith, all .asks .kind)
+      by-fitting other (hello e c) w = omega (arith, all .kind)
+      by-fitting other (write lo hi e) w = omega (arith, all .kind)
       by-fitting other (read lo hi fits) w = never other fits w
 
       by-number : (k : ℕ) → numberOf judged ≡ k → TurnedAway (numberOf judged)
@@ -71,17 +94,19 @@ module _ (q : Question) (values : List ℕ) (all : ReadsAll q values) where
           absurd (by-fitting (a .values) (a .answer .fitting) (a .answer .written))
       by-number (suc k) e = omega arith
 
+  -- as any is that has too few bits turned over to be another answer's
+  damaged : (masks : List ℕ) → Damage (answerLine q values) masks (mostBits (q .n))
+      → (before after : List ℕ) (r : Reading) → ReadDone q (turned (answerLine q values) masks) before after r
+      → TurnedAway (numberOf r) × (after ≡ before)
+  damaged masks d =
+      refused masks (λ other fits w.
+      let asks = asks-all q values all in
+      let four = four-at-least q asks values other all-values fits masks (d .every) (d .some) w in
+      ⊎-elim (λ (three : mostBits (q .n) ≤ 3). omega (arith, d .few, four))
+      (λ both.
+      let six = six-at-least q asks values other all-values fits masks (d .every) (d .some) w (omega (arith, both .1, all .number)) in
+      omega (arith, d .few, both .0, six))
+      (bits-for (q .n) (good-count q (all .good) (omega (arith, all .kind)) .1)))
+
 pub demand-3 : Demand3
-demand-3 = record {
-  undamaged = taken;
-  five-bits = λ q values all least most masks d.
-      refused q values all masks
-      (λ other fits w.
-      let least = six-at-least q (all .asks) values other (all-values q values all) fits masks (d .every) (omega arith) w (omega arith) in
-      omega arith);
-  three-bits = λ q values all least most masks d.
-      refused q values all masks
-      (λ other fits w.
-      let least = four-at-least q (all .asks) values other (all-values q values all) fits masks (d .every) (omega arith) w in
-      omega arith);
-}
+demand-3 = record { undamaged = taken; damaged = damaged }

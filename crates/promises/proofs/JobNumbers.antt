@@ -8,7 +8,7 @@ use mathlib.Core.List.{List, [], _∷_, _++_}
 use Prim.Native.Nat.{ℕ, _+_, _%_, _≤_, _<_}
 use native.Mathlib.Omega.{arith}
 use lib.Dec.{leb}
-use lib.ListN.{length, drop}
+use lib.ListN.{length, getD, drop}
 use borrow.Author.Tests.{leb-true, leb-false}
 use Rattle.ground.proofs.Test.{refuted}
 use Rattle.remainder.specs.Turned.{Bytes}
@@ -25,7 +25,7 @@ use Rattle.jobs.proofs.Sizes.{head-length}
 use Rattle.jobs.proofs.OneEntry.{entry-back, entry-good, good-is-written, drop-bytes}
 use Rattle.jobs.proofs.GoodFile.{header-read, entries-read, encoded-is-good, good-is-encoded}
 use Rattle.letters.specs.declared.Standing.{Standing}
-use Rattle.printing.specs.Text.{certificateText}
+use Rattle.printing.specs.Text.{deviceLineIf, certificateText}
 use Rattle.printing.specs.Print.{mostEntries, printedOf, printedNumber}
 use Rattle.printing.specs.declared.Printed.the-variants as printed
 use Rattle.certificate.specs.Certificate.{certificateOf, certifiedOf, certifiedNumber}
@@ -40,7 +40,8 @@ use Rattle.rehearsal.proofs.Counting.{rehearsed-size}
 use Rattle.bmc.specs.Exports.{packedCertified, CertificateBytesDone}
 use Rattle.promises.specs.ByNumber.{row, NumberDue}
 use Rattle.promises.specs.Rows.{readRows}
-use Rattle.promises.specs.CallRows.{NoJobFile, NoEntry, openRows, nextRows, printRows, certifyRows, AnsweredAbove, rehearseRows}
+use Rattle.promises.specs.Certificate.{linesOf}
+use Rattle.promises.specs.CallRows.{room, NoJobFile, NoEntry, nextRows, certifyRows, AnsweredAbove, rehearseRows}
 use Rattle.promises.proofs.Rows.{by-number}
 use Rattle.promises.proofs.CallsByNumber.{enough-room, short-of-room}
 use Rattle.promises.proofs.Certificate.{text-for, only-text}
@@ -61,11 +62,11 @@ good-is-an-entry h rest small good none =
 
 -- ---- a file opened, an entry taken out
 
-pub opened-by-number : (file : List ℕ) → Bytes file → NumberDue (openRows file) (openedNumber (openedOf file))
+pub opened-by-number : (file : List ℕ) → Bytes file → NumberDue (row 14 (NoJobFile file) ∷ []) (openedNumber (openedOf file))
 unfolding openedOf
 opened-by-number file small = by-test (goodFile file) refl
   where
-    by-test : (good : Bool) → goodFile file ≡ good → NumberDue (openRows file) (openedNumber (cond good (opened.Job (headerIn file)) opened.File))
+    by-test : (good : Bool) → goodFile file ≡ good → NumberDue (row 14 (NoJobFile file) ∷ []) (openedNumber (cond good (opened.Job (headerIn file)) opened.File))
     by-test true good = inr (good-is-a-job file small good, refl)
     by-test false bad = inl (bad-is-no-job file bad, refl)
 
@@ -110,19 +111,25 @@ nothing-by-number h front s small none =
 
 -- ---- a text printed
 
-pub printed-by-number : (n : ℕ) (numbers : List ℕ) (s : Standing) (text : List ℕ)
-    → NumberDue (printRows (length numbers) (length text) (length (certificateText n numbers s))) (printedNumber (printedOf n numbers s text))
+text-by-number : (n : ℕ) (numbers : List ℕ) (s : Standing) (text : List ℕ)
+    → NumberDue (row 14 (mostEntries < length numbers) ∷ room (length text) (length (certificateText n numbers s)) ∷ []) (printedNumber (printedOf n numbers s text))
 unfolding printedOf
-printed-by-number n numbers s text = by-tests (leb (length numbers) mostEntries) refl (leb bytes (length text)) refl
+text-by-number n numbers s text = by-tests (leb (length numbers) mostEntries) refl (leb bytes (length text)) refl
   where
     bytes : ℕ
     bytes = length (certificateText n numbers s)
 
     by-tests : (few : Bool) → leb (length numbers) mostEntries ≡ few → (fits : Bool) → leb bytes (length text) ≡ fits
-        → NumberDue (printRows (length numbers) (length text) bytes) (printedNumber (cond few (cond fits (printed.Bytes bytes) printed.Room) printed.Many))
+        → NumberDue (row 14 (mostEntries < length numbers) ∷ room (length text) bytes ∷ []) (printedNumber (cond few (cond fits (printed.Bytes bytes) printed.Room) printed.Many))
     by-tests false many fits f = inl (leb-false (length numbers) mostEntries many, refl)
     by-tests true few true fits = inr ((λ many. omega (arith, leb-true (length numbers) mostEntries few)), enough-room (length text) bytes fits)
     by-tests true few false short = inr ((λ many. omega (arith, leb-true (length numbers) mostEntries few)), short-of-room (length text) bytes short)
+
+pub printed-by-number : (n : ℕ) (numbers : List ℕ) (s : Standing) (text : List ℕ)
+    → NumberDue (row 14 (mostEntries < length numbers) ∷ room (length text) (length (linesOf n numbers (λ a. deviceLineIf (s .write) a (getD (s .letters) a 0)))) ∷ [])
+    (printedNumber (printedOf n numbers s text))
+unfolding certificateText
+printed-by-number = text-by-number
 
 -- ---- the certificate
 

@@ -27,5 +27,5 @@ pub mod SecondCall
 mod CSideLine
 pub mod CSideCommands
 pub mod CSideAnswers
-mod BytesTurned
+pub mod BytesTurned
 pub mod CSideDamage

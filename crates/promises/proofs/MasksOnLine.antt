@@ -17,8 +17,19 @@ use Rattle.characters.specs.Character.{wordOf, preamble, stop}
 use Rattle.characters.specs.Nibble.{nibbleWord}
 use Rattle.lines.specs.Line.{charactersOf, lineOf}
 use Rattle.lines.proofs.Line.{length-characters}
-use Rattle.promises.specs.WhereItEnds.{lineBits, onCharacters, onLine}
 use Rattle.promises.proofs.MasksOnWire.{turned-append}
+
+-- the line bits of a nibble's bits: each bit and its complement
+abbrev pub lineBits : ℕ → ℕ
+lineBits nibble = bitXor (nibbleWord 0) (nibbleWord nibble)
+
+-- masks of bytes as masks of the line's words: two words a byte, and nothing of preamble and stop
+unfoldable pub onCharacters : List ℕ → List ℕ
+onCharacters [] = []
+onCharacters (m ∷ masks) = lineBits (m % 16) ∷ lineBits (m / 16) ∷ onCharacters masks
+
+unfoldable pub onLine : List ℕ → List ℕ
+onLine masks = 0 ∷ (onCharacters masks ++ (0 ∷ []))
 
 bits-apart : ℕ → ℕ → Bool
 bits-apart a b = eqb (nibbleWord (bitXor a b)) (bitXor (nibbleWord a) (lineBits b))

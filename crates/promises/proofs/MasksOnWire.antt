@@ -51,7 +51,7 @@ varied-turned values masks e =
     let same : length (onWire values) ≡ length (onWire masks) = omega (arith, length-wire values, length-wire masks) in
     ap (λ (l : List ℕ). l ++ (0 ∷ [])) (wire-turned values masks e) ∙ sym (turned-append (onWire values) (0 ∷ []) (onWire masks) (0 ∷ []) same)
 
-turned-back : (xs ms : List ℕ) → length xs ≡ length ms → turned xs (turned xs ms) ≡ ms
+pub turned-back : (xs ms : List ℕ) → length xs ≡ length ms → turned xs (turned xs ms) ≡ ms
 unfolding turned
 turned-back [] [] e = refl
 turned-back [] (m ∷ ms) e = absurd (omega arith)

@@ -3,7 +3,7 @@
 use mathlib.Core.Path.{_≡_, refl, sym, subst, _∙_}
 use mathlib.Core.Bool.{Bool, true, false, cond, _&&_, false≢true}
 use mathlib.Core.Logic.{inl, inr, ⊎-elim}
-use mathlib.Core.List.{List}
+use mathlib.Core.List.{List, _∷_}
 use Prim.Native.Nat.{ℕ, suc, _/_, _%_, _≤_, _<_}
 use native.Mathlib.Omega.{arith}
 use lib.Dec.{eqb, leb, lit<}
@@ -21,11 +21,11 @@ use Rattle.cells.specs.declared.CellRefusal.the-variants as cell-refusal
 use Rattle.c_cells.specs.CellBytes.{microvoltsOr, voltsOr, microvoltsLeft, voltsLeft, CellDone}
 use Rattle.c_cells.specs.CellsBytes.{cellsNumber, CellsDone}
 use Rattle.c_cells.proofs.EachCell.{own-done}
-use Rattle.promises.specs.ByNumber.{NumberDue}
-use Rattle.promises.specs.CallRows.{cellRows, cellIntoRows, cellsIntoRows}
-use Rattle.promises.specs.Demand1.{packedNumber, OwnCell}
+use Rattle.promises.specs.ByNumber.{row, NumberDue, packedNumber}
+use Rattle.promises.specs.CallRows.{cellRows}
+use Rattle.promises.specs.Demand1.{OwnCell}
 use Rattle.promises.proofs.ByNumber.{below-256}
-use Rattle.promises.proofs.CallsByNumber.{cell-into-due, cells-into-due}
+use Rattle.promises.proofs.CallsByNumber.{cell-into-due, cellsRows, cells-into-due}
 use Rattle.promises.proofs.RefusedBytes.{refused-cell}
 
 -- a cell that is not enabled leaves the two lent numbers as they were
@@ -54,24 +54,24 @@ off-stays c mask register bipolar m m′ v v′ r done off =
 
 module _ (mask bipolar : ℕ) (registers : List ℕ) (m m′ : List ℤ) (v v′ : List Float) (a a′ : List ℕ) (r : ℕ)
     (done : CellsDone mask bipolar registers m m′ v v′ a a′ r) (accepted : packedNumber r ≡ 0) (k : ℕ) (below : k < 12) where
-  due : NumberDue (cellsIntoRows bipolar (length registers) (length m) (length v) (length a)) (cellsNumber bipolar registers m v a)
+  due : NumberDue (cellsRows bipolar registers m v a) (cellsNumber bipolar registers m v a)
   due = cells-into-due bipolar registers m v a
 
   no-row : cellsNumber bipolar registers m v a ≡ 0
   no-row =
-      let small = below-256 (cellsIntoRows bipolar (length registers) (length m) (length v) (length a)) (cellsNumber bipolar registers m v a)
+      let small = below-256 (cellsRows bipolar registers m v a) (cellsNumber bipolar registers m v a)
       (lit< tt, (lit< tt, (lit< tt, tt))) due in omega (arith, done .says, accepted, small)
 
   -- a range is named
   named : 2 ≤ bipolar → ⊥
   named = by-due due
     where
-      by-due : NumberDue (cellsIntoRows bipolar (length registers) (length m) (length v) (length a)) (cellsNumber bipolar registers m v a) → 2 ≤ bipolar → ⊥
+      by-due : NumberDue (cellsRows bipolar registers m v a) (cellsNumber bipolar registers m v a) → 2 ≤ bipolar → ⊥
       by-due (inl question) many = omega (arith, question .1, no-row)
       by-due (inr later) many = later .0 many
 
   -- so that of C's rows of one cell those of the cell are left
-  of-the-cell : (number : ℕ) → NumberDue (cellIntoRows bipolar mask (suc k) (wordAt registers k)) number → NumberDue (cellRows mask (suc k) (wordAt registers k)) number
+  of-the-cell : (number : ℕ) → NumberDue (row 1 (2 ≤ bipolar) ∷ cellRows mask (suc k) (wordAt registers k)) number → NumberDue (cellRows mask (suc k) (wordAt registers k)) number
   of-the-cell number (inl question) = absurd (named (question .0))
   of-the-cell number (inr own) = own .1
 

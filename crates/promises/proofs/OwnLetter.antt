@@ -1,9 +1,9 @@
 -- No device speaks for another: the letters' own law, on what is heard of two jobs. And a good write covers devices of its chain alone: WRITEALL
 -- those below n, WRITEDEVICE one below n, and n is 32 at most.
-use mathlib.Core.Path.{_≡_, sym, ap, _∙_}
+use mathlib.Core.Path.{_≡_, refl, sym, ap, _∙_}
 use mathlib.Core.Bool.{true, _||_}
 use mathlib.Core.Logic.{⊎-elim, inl}
-use mathlib.Core.List.{List}
+use mathlib.Core.List.{List, []}
 use Prim.Native.Nat.{ℕ, _<_, _≤_}
 use native.Mathlib.Omega.{arith}
 use lib.Dec.{eqb}
@@ -14,9 +14,10 @@ use Rattle.questions.specs.Question.{writeAll, writeDevice, goodQuestion, cover
 use Rattle.questions.specs.declared.question.Question.{Question}
 use Rattle.questions.proofs.Good.{good-count, good-device}
 use Rattle.letters.specs.Letters.{Heard, isGoodWrite, standingAfter}
-use Rattle.letters.specs.Meaning.{Deserves, holds, differs, unread}
+use Rattle.letters.specs.Meaning.{Deserves}
 use Rattle.letters.proofs.Meaning.{given-is-deserved, deserved-is-given}
 use Rattle.letters.proofs.OwnView.{own-view}
+use Rattle.promises.specs.Certificate.{DeviceLine, lettered, none}
 use Rattle.promises.specs.OwnLetter.{OwnLetter}
 
 -- what a good write covers is a device of its chain
@@ -39,9 +40,7 @@ covered-below q write a covered = let chain = covered-in-chain q write a covered
 
 -- so is what deserves a letter
 pub deserving-below : {xs : List Heard} {a letter : ℕ} → Deserves xs a letter → a < 32
-deserving-below {a = a} (holds w covered r same) = covered-below (w .entry .question) (w .passes) a covered
-deserving-below {a = a} (differs w covered r other) = covered-below (w .entry .question) (w .passes) a covered
-deserving-below {a = a} (unread w covered silent) = covered-below (w .entry .question) (w .passes) a covered
+deserving-below {a = a} due = covered-below (due .write .entry .question) (due .write .passes) a (due .covered)
 
 -- what is deserved in one job is deserved in the other
 deserves-alike : (a v : ℕ) (xs xs′ : List Heard) → (covers (standingAfter xs .write) a ≡ covers (standingAfter xs′ .write) a)
@@ -51,18 +50,35 @@ deserves-alike a v xs xs′ covered letter due =
     let given = deserved-is-given xs a v below due in
     given-is-deserved xs′ a v below (record { covered = sym covered ∙ given .covered; stands = sym letter ∙ given .stands })
 
+-- a device deserves one letter at most,
+one-letter : {xs : List Heard} {a v v′ : ℕ} → Deserves xs a v → Deserves xs a v′ → v ≡ v′
+one-letter {xs} {a} {v} {v′} due due′ =
+    let below = deserving-below due in
+    sym (deserved-is-given xs a v below due .stands) ∙ deserved-is-given xs a v′ below due′ .stands
+
+-- so that its line is the same wherever it deserves the same
+pub same-line : (a : ℕ) (xs xs′ : List Heard) → ((v : ℕ) → Deserves xs a v → Deserves xs′ a v) → ((v : ℕ) → Deserves xs′ a v → Deserves xs a v)
+    → (l l′ : List ℕ) → DeviceLine xs a l → DeviceLine xs′ a l′ → l ≡ l′
+same-line a xs xs′ to back _ _ (lettered v due) (lettered v′ due′) = let same : v ≡ v′ = one-letter (to v due) due′ in cc
+same-line a xs xs′ to back _ _ (lettered v due) (none never) = absurd (never v (to v due))
+same-line a xs xs′ to back _ _ (none never) (lettered v due) = absurd (never v (back v due))
+same-line a xs xs′ to back _ _ (none never) (none never′) = refl
+
+pub no-line : (a : ℕ) (xs : List Heard) → ((v : ℕ) → Deserves xs a v → ⊥) → (l : List ℕ) → DeviceLine xs a l → l ≡ []
+no-line a xs never _ (lettered v due) = absurd (never v due)
+no-line a xs never _ (none never′) = refl
+
 pub own-letter : OwnLetter
 own-letter = record {
-  own = λ h h′ es es′ text text′ c c′ a alike v. (
-    λ there.
-        let due = c .deserved a v there in
-        let same = own-view a (deserving-below due) (c .heard) (c′ .heard) alike in
-        c′ .every a v (deserves-alike a v (c .heard) (c′ .heard) (same .0) (same .1) due),
-    λ there.
-        let due = c′ .deserved a v there in
-        let same = own-view a (deserving-below due) (c .heard) (c′ .heard) alike in
-        c .every a v (deserves-alike a v (c′ .heard) (c .heard) (sym (same .0)) (sym (same .1)) due),
-  );
+  own = λ h h′ es es′ text text′ c c′ a alike.
+      same-line a (c .heard) (c′ .heard)
+      (λ v due.
+      let same = own-view a (deserving-below due) (c .heard) (c′ .heard) alike in
+      deserves-alike a v (c .heard) (c′ .heard) (same .0) (same .1) due)
+      (λ v due.
+      let same = own-view a (deserving-below due) (c .heard) (c′ .heard) alike in
+      deserves-alike a v (c′ .heard) (c .heard) (sym (same .0)) (sym (same .1)) due)
+      (c .line a) (c′ .line a) (c .deserved a) (c′ .deserved a);
   covered-below = covered-below;
-  lettered-below = λ h es text c a v there. deserving-below (c .deserved a v there);
+  lettered-below = λ h es text c a above. no-line a (c .heard) (λ v due. omega (arith, above, deserving-below due)) (c .line a) (c .deserved a);
 }

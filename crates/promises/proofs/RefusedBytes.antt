@@ -35,7 +35,8 @@ use Rattle.c_cells.specs.CellBytes.{packedCell, microvoltsOr, voltsOr, answerOf
 use Rattle.c_cells.specs.CellsBytes.{cellsNumber, cellsRead, byCell, packedOr, CellsDone}
 use Rattle.c_twin.specs.TwinBytes.{powerNumber, bytesNumber, PowerBytesDone, BytesDone}
 use Rattle.bmc.specs.Exports.{packedCertified, CertificateBytesDone}
-use Rattle.promises.specs.Demand1.{TurnedAway, packedNumber}
+use Rattle.promises.specs.ByNumber.{packedNumber}
+use Rattle.promises.specs.Demand1.{TurnedAway}
 use Rattle.promises.proofs.RefusedWritesNothing.{refused-certificate}
 
 pub refused-read-bytes : (q : asked.Question) (line before after : List ℕ) (r : ℕ) → ReadBytesDone q line before after r

@@ -6,12 +6,15 @@ use Prim.Native.Nat.{ℕ, _≤_}
 use native.Mathlib.Omega.{arith}
 use lib.ListN.{length, take, drop}
 use lib.Seq.{take-append-seam, take-at}
+use Rattle.lines.specs.Write.{atFront}
 use Rattle.questions.specs.Shape.{shapeOf}
 use Rattle.commands.specs.Command.{commandLine, CommandPut}
 use Rattle.commands.specs.declared.Issued.{Issued}
 use Rattle.questions.specs.declared.question.Question.{Question}
+use Rattle.readings.specs.Reading.{numberOf}
 use Rattle.readings.specs.declared.Reading.{Reading}
 use Rattle.reader.specs.Read.{ReadDone}
+use Rattle.acceptance.specs.Answer.{readingOf, handedOut}
 use Rattle.twin.specs.Step.{chainWith, hops, ChainDone}
 use Rattle.twin.specs.declared.step.Stepped.{Stepped}
 use Rattle.commands.proofs.Issuing.{command-written}
@@ -19,7 +22,6 @@ use Rattle.twin.proofs.Stepping.{says-handed, leaves-line, leaves-memory, hops-
 use Rattle.roundtrip.specs.Between.{broughtBack, ChangedBy}
 use Rattle.roundtrip.proofs.RoundTrip.{right-answer}
 use Rattle.roundtrip.proofs.RegistersAfter.{held-after}
-use Rattle.promises.specs.Demand2.{Accepted, With}
 use Rattle.promises.specs.RoundTrip.{PutTo, Trip, RoundTrip}
 use Rattle.promises.proofs.Demand2.{demand-2}
 use Rattle.promises.proofs.EachStep.{is-a-chain}
@@ -47,7 +49,8 @@ module _ (q : Question) (n : ℕ) (memory : List ℕ) (to : PutTo q n memory) wh
       → CommandPut q written line issued → length (commandLine q) ≤ length written
       → ChainDone n memory memoryLeft (take (length (commandLine q)) line) out outAfter r → length (commandLine q) ≤ length out
       → ReadDone q (take (length (commandLine q)) outAfter) before after reading → shapeOf q .values ≤ length before
-      → Accepted reading × With q (broughtBack q n memory) before after reading × ChangedBy q n memory memoryLeft
+      → (numberOf reading ≡ 0) × (reading ≡ readingOf q (broughtBack q n memory)) × (after ≡ atFront (handedOut q (broughtBack q n memory)) before)
+      × ChangedBy q n memory memoryLeft
   whole-trip written line out outAfter memoryLeft before after issued r reading put room-to-write stepped room-to-step done room-to-read =
       let words = length (commandLine q) in
       let sent : take words line ≡ commandLine q =
@@ -55,9 +58,9 @@ module _ (q : Question) (n : ℕ) (memory : List ℕ) (to : PutTo q n memory) wh
       let there = trip out outAfter memoryLeft r (subst (λ (l : List ℕ). ChainDone n memory memoryLeft l out outAfter r) sent stepped) room-to-step in
       let back : take words outAfter ≡ there .answer =
       ap (take words) (there .stands) ∙ take-at (there .answer) (drop (length (there .answer)) out) words (there .words) in
-      let read = demand-2 .always-then q (there .answer) before after reading (subst (λ (l : List ℕ). ReadDone q l before after reading) back done)
+      let read = demand-2 .answers q (there .answer) before .always-then after reading (subst (λ (l : List ℕ). ReadDone q l before after reading) back done)
       (to .sends) (broughtBack q n memory) (record { good = to .good; room = room-to-read; answer = there .right }) in
-      (read .0, read .1, there .holds)
+      (read .0, read .1, read .2, there .holds)
 
 pub round-trip : RoundTrip
 round-trip = record { through = trip; whole = whole-trip }

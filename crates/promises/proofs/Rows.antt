@@ -49,7 +49,7 @@ module _ (q : asked.Question) (line : List ℕ) (lent : ℕ) where
   alike : Alike (readRows q line lent) (rowsOf q line lent)
   unfolding rowsOf screenRows byteRows bytes
   alike =
-      next (asks 1 _ Question (goodQuestion q) refl (given.bad-question q) (given.good-question q))
+      next (asks 1 _ Question (goodQuestion q) refl (λ bad. bad) given.never)
       (next (asks 2 _ Room (leb (shapeOf q .values) lent) refl (leb-false (shapeOf q .values) lent)
       (λ e short. omega (arith, leb-true (shapeOf q .values) lent e)))
       (next (asks 3 _ Length (eqb (length line) (shapeOf q .words)) refl (eqb-false (length line) (shapeOf q .words))

@@ -1,15 +1,15 @@
 -- Each row of the reader's table, as document 01 says it, is given exactly where the reader's own test fails.
-use mathlib.Core.Path.{_≡_, refl, sym, ap, _∙_}
-use mathlib.Core.Bool.{Bool, true, false, _&&_, _||_, not, true≢false}
+use mathlib.Core.Path.{_≡_, refl, sym, _∙_}
+use mathlib.Core.Bool.{Bool, true, false, _&&_, true≢false}
 use mathlib.Core.Logic.{_⊎_, inl, inr, ⊎-elim}
-use mathlib.Core.List.{List, [], _∷_}
+use mathlib.Core.List.{List, [], _∷_, getLastD}
 use Prim.Native.Nat.{ℕ, zero, suc, _+_, _%_, _/_, _-_, _≤_, _<_}
 use native.Mathlib.Nat.{eq-zero-or-pos}
 use native.Mathlib.Omega.{arith}
-use lib.Dec.{eqb, leb, ltb}
+use lib.Dec.{eqb, leb}
 use lib.ListN.{length, getD, take}
-use borrow.Author.Tests.{eqb-true, eqb-false, leb-true, leb-false, ltb-false, not-false}
-use Rattle.ground.proofs.Test.{and-left, and-right, or-cases, below-or-not}
+use borrow.Author.Tests.{eqb-true, eqb-false, leb-true, leb-false}
+use Rattle.ground.proofs.Test.{and-left, and-right, below-or-not}
 use Rattle.pec.specs.Pec.{pecOf}
 use Rattle.characters.specs.Character.{preamble, stop}
 use Rattle.characters.specs.Nibble.{isNibble}
@@ -18,64 +18,21 @@ use Rattle.scanning.specs.Place.{firstNoCharacter, firstNoNibble}
 use Rattle.scanning.specs.Frame.{framed}
 use Rattle.scanning.specs.declared.Place.the-variants.{At, Nowhere}
 use Rattle.scanning.proofs.FirstPlace.{at-first, nowhere-passes, characters-along, nibbles-along}
-use Rattle.scanning.proofs.Ends.{framed-ends, first-preamble, last-stop}
-use Rattle.questions.specs.Question.{byForm, goodChain, goodQuestion}
+use Rattle.questions.specs.Question.{byForm}
 use Rattle.questions.specs.Shape.{shapeOf}
+use Rattle.questions.specs.Bytes.{writeCovered}
 use Rattle.questions.specs.declared.question.Question as asked
-use Rattle.questions.proofs.ByKind.{of-write}
-use Rattle.questions.proofs.Good.{good-kind, good-alive, good-count, good-device}
 use Rattle.contents.specs.Rows.{byteIn, valueEchoed, echoed, pecRight, aliveRight, checkByte, countRight}
 use Rattle.contents.proofs.RowLaws as laws
-use Rattle.promises.specs.Rows.{NotGood, NotFramed, NotEchoed, WrongPec, WrongAlive, checkIn, countIn, Lowest}
-use Rattle.promises.specs.Rows.NotGood.{kind as kind-over, alive as alive-over, count as count-out, device as device-out}
-use Rattle.promises.specs.Rows.NotFramed.{first as first-word, last as last-word}
-use Rattle.promises.specs.Rows.NotEchoed.{first as first-byte, second as second-byte, low as low-byte, high as high-byte}
+use Rattle.promises.specs.Rows.{echo, checkIn, countIn, Lowest}
 
 -- what a test that came out false says of its parts
 and-false : (a b : Bool) → (a && b) ≡ false → (a ≡ false) ⊎ (b ≡ false)
 and-false true b e = inr e
 and-false false b e = inl refl
 
-or-false : (a b : Bool) → (a || b) ≡ false → (a ≡ false) × (b ≡ false)
-or-false true b e = absurd (true≢false e)
-or-false false b e = (refl, e)
-
-never : {t : Bool} → t ≡ true → t ≡ false → ⊥
+pub never : {t : Bool} → t ≡ true → t ≡ false → ⊥
 never e f = true≢false (sym e ∙ f)
-
--- ---- 1 QUESTION
-
-module _ (q : asked.Question) where
-  bad-chain : 1 ≤ q .kind → goodChain q ≡ false → NotGood q
-  unfolding goodChain
-  bad-chain lo e =
-      let named = eqb (q .kind) 2 || eqb (q .kind) 4 in
-      ⊎-elim
-      (λ f. ⊎-elim (λ low. count-out lo (inl (omega (arith, leb-false 1 (q .n) low))))
-      (λ high. count-out lo (inr (leb-false (q .n) 32 high))) (and-false (leb 1 (q .n)) (leb (q .n) 32) f))
-      (λ f. let both = or-false (not named) (ltb (q .device) (q .n)) f in
-      device-out
-      (⊎-elim (λ two. inl (eqb-true (q .kind) 2 two)) (λ four. inr (eqb-true (q .kind) 4 four))
-      (or-cases (eqb (q .kind) 2) (eqb (q .kind) 4) (not-false named (both .0))))
-      (ltb-false (q .device) (q .n) (both .1)))
-      (and-false (leb 1 (q .n) && leb (q .n) 32) (not named || ltb (q .device) (q .n)) e)
-
-  pub bad-question : goodQuestion q ≡ false → NotGood q
-  unfolding goodQuestion
-  bad-question e =
-      ⊎-elim
-      (λ f. ⊎-elim (λ kind. kind-over (leb-false (q .kind) 4 kind)) (λ alive. alive-over (leb-false (q .alive) 1 alive))
-      (and-false (leb (q .kind) 4) (leb (q .alive) 1) f))
-      (λ f. let both = or-false (eqb (q .kind) 0) (goodChain q) f in
-      bad-chain (laws.positive (q .kind) (eqb-false (q .kind) 0 (both .0))) (both .1))
-      (and-false (leb (q .kind) 4 && leb (q .alive) 1) (eqb (q .kind) 0 || goodChain q) e)
-
-  pub good-question : goodQuestion q ≡ true → NotGood q → ⊥
-  good-question good (kind-over over) = omega (arith, good-kind q good)
-  good-question good (alive-over over) = omega (arith, good-alive q good)
-  good-question good (count-out lo (inl none)) = omega (arith, good-count q good lo .0)
-  good-question good (count-out lo (inr over)) = omega (arith, good-count q good lo .1)
-  good-question good (device-out named over) = omega (arith, good-device q good named)
 
 -- ---- 4 CHARACTER and 6 MANCHESTER
 
@@ -100,108 +57,126 @@ module _ (line : List ℕ) where
 
 -- ---- 5 FRAME
 
-pub bad-frame : (line : List ℕ) → framed line ≡ false → NotFramed line
-bad-frame [] e = first-word (λ z. omega arith)
-bad-frame (w ∷ line) e =
-    ⊎-elim (λ f. first-word (eqb-false w preamble f))
-    (λ f. let at : length (w ∷ line) - 1 ≡ length line = omega arith in
-    last-word (length line) (omega arith)
-    (λ is. eqb-false (getD (w ∷ line) (length (w ∷ line) - 1) 0) stop f (ap (λ (k : ℕ). getD (w ∷ line) k 0) at ∙ is)))
-    (and-false (eqb w preamble) (eqb (getD (w ∷ line) (length (w ∷ line) - 1) 0) stop) (sym (framed-ends (w ∷ line)) ∙ e))
+pub bad-frame : (line : List ℕ) → framed line ≡ false → (getD line 0 0 ≡ preamble → ⊥) ⊎ (getLastD line 0 ≡ stop → ⊥)
+unfolding framed
+bad-frame line e =
+    ⊎-elim (λ f. inl (eqb-false (getD line 0 0) preamble f)) (λ f. inr (eqb-false (getLastD line 0) stop f))
+    (and-false (eqb (getD line 0 0) preamble) (eqb (getLastD line 0) stop) e)
 
-pub good-frame : (line : List ℕ) → framed line ≡ true → NotFramed line → ⊥
-good-frame line e (first-word other) = other (first-preamble line e)
-good-frame line e (last-word i end other) =
-    let at : i ≡ length line - 1 = omega arith in
-    other (ap (λ (k : ℕ). getD line k 0) at ∙ last-stop line e)
+pub good-frame : (line : List ℕ) → framed line ≡ true → (getD line 0 0 ≡ preamble → ⊥) ⊎ (getLastD line 0 ≡ stop → ⊥) → ⊥
+unfolding framed
+good-frame line e =
+    ⊎-elim (λ other. other (eqb-true (getD line 0 0) preamble (and-left _ _ e)))
+    (λ other. other (eqb-true (getLastD line 0) stop (and-right (eqb (getD line 0 0) preamble) _ e)))
 
 -- ---- 7 to 11, on the bytes
 
 module _ (q : asked.Question) (bytes : List ℕ) where
-  abbrev Second : ℕ → ℕ
-  Second k = byForm k 0 (q .reg) (q .reg)
+  -- 7 ECHO, kind by kind: a byte of those that the answer repeats is another
+  abbrev Other : List ℕ → Type 0
+  Other repeated = (i : ℕ) × (i < length repeated) × (getD bytes i 0 ≡ getD repeated i 0 → ⊥)
 
-  abbrev Rest : ℕ → Bool
-  Rest k = byForm k (eqb (byteIn bytes 1) 0) (eqb (byteIn bytes 1) (q .reg) && valueEchoed q bytes) (eqb (byteIn bytes 1) (q .reg))
+  abbrev first : ℕ
+  first = shapeOf q .first
 
-  bad-second : (k : ℕ) → q .kind ≡ k → eqb (byteIn bytes 1) (Second k) ≡ false → NotEchoed q bytes
-  bad-second k e f = second-byte (λ is. eqb-false (byteIn bytes 1) (Second k) f (is ∙ ap Second e))
+  abbrev repeats : ℕ → List ℕ
+  repeats k = byForm k (first ∷ 0 ∷ []) (writeCovered q) (first ∷ q .reg ∷ [])
 
-  bad-value : 1 ≤ q .kind → q .kind ≤ 2 → valueEchoed q bytes ≡ false → NotEchoed q bytes
-  bad-value lo hi e =
-      ⊎-elim (λ f. low-byte lo hi (eqb-false (byteIn bytes 2) (q .value % 256) f))
-      (λ f. high-byte lo hi (eqb-false (byteIn bytes 3) (q .value / 256) f))
-      (and-false (eqb (byteIn bytes 2) (q .value % 256)) (eqb (byteIn bytes 3) (q .value / 256)) e)
+  abbrev Repeated : ℕ → Bool
+  Repeated k =
+      eqb (byteIn bytes 0) first
+      && byForm k (eqb (byteIn bytes 1) 0) (eqb (byteIn bytes 1) (q .reg) && valueEchoed q bytes) (eqb (byteIn bytes 1) (q .reg))
 
-  bad-rest : (k : ℕ) → q .kind ≡ k → Rest k ≡ false → NotEchoed q bytes
-  bad-rest zero e f = bad-second 0 e f
-  bad-rest (suc zero) e f =
-      ⊎-elim (bad-second 1 e) (bad-value (omega arith) (omega arith)) (and-false (eqb (byteIn bytes 1) (q .reg)) (valueEchoed q bytes) f)
-  bad-rest (suc (suc zero)) e f =
-      ⊎-elim (bad-second 2 e) (bad-value (omega arith) (omega arith)) (and-false (eqb (byteIn bytes 1) (q .reg)) (valueEchoed q bytes) f)
-  bad-rest (suc (suc (suc zero))) e f = bad-second 3 e f
-  bad-rest (suc (suc (suc (suc k)))) e f = bad-second (suc (suc (suc (suc k)))) e f
+  bad-two : (second : ℕ) → (eqb (byteIn bytes 0) first && eqb (byteIn bytes 1) second) ≡ false → Other (first ∷ second ∷ [])
+  bad-two second e =
+      ⊎-elim (λ f. (0, omega arith, eqb-false (byteIn bytes 0) first f)) (λ f. (1, omega arith, eqb-false (byteIn bytes 1) second f))
+      (and-false (eqb (byteIn bytes 0) first) (eqb (byteIn bytes 1) second) e)
 
-  pub bad-echo : echoed q bytes ≡ false → NotEchoed q bytes
+  bad-four : (eqb (byteIn bytes 0) first && (eqb (byteIn bytes 1) (q .reg) && valueEchoed q bytes)) ≡ false → Other (writeCovered q)
+  bad-four e =
+      ⊎-elim (λ f. (0, omega arith, eqb-false (byteIn bytes 0) first f))
+      (λ f. ⊎-elim (λ f. (1, omega arith, eqb-false (byteIn bytes 1) (q .reg) f))
+      (λ f. ⊎-elim (λ f. (2, omega arith, eqb-false (byteIn bytes 2) (q .value % 256) f))
+      (λ f. (3, omega arith, eqb-false (byteIn bytes 3) (q .value / 256) f))
+      (and-false (eqb (byteIn bytes 2) (q .value % 256)) (eqb (byteIn bytes 3) (q .value / 256)) f))
+      (and-false (eqb (byteIn bytes 1) (q .reg)) (valueEchoed q bytes) f))
+      (and-false (eqb (byteIn bytes 0) first) (eqb (byteIn bytes 1) (q .reg) && valueEchoed q bytes) e)
+
+  bad-at : (k : ℕ) → Repeated k ≡ false → Other (repeats k)
+  bad-at zero e = bad-two 0 e
+  bad-at (suc zero) e = bad-four e
+  bad-at (suc (suc zero)) e = bad-four e
+  bad-at (suc (suc (suc zero))) e = bad-two (q .reg) e
+  bad-at (suc (suc (suc (suc k)))) e = bad-two (q .reg) e
+
+  good-two : (second : ℕ) → (eqb (byteIn bytes 0) first && eqb (byteIn bytes 1) second) ≡ true → Other (first ∷ second ∷ []) → ⊥
+  good-two second e (zero, below, other) = other (eqb-true (byteIn bytes 0) first (and-left _ _ e))
+  good-two second e (suc zero, below, other) = other (eqb-true (byteIn bytes 1) second (and-right (eqb (byteIn bytes 0) first) _ e))
+  good-two second e (suc (suc i), below, other) = omega arith
+
+  good-four : (eqb (byteIn bytes 0) first && (eqb (byteIn bytes 1) (q .reg) && valueEchoed q bytes)) ≡ true → Other (writeCovered q) → ⊥
+  good-four e (i, below, other) = at i below other
+    where
+      rest : (eqb (byteIn bytes 1) (q .reg) && valueEchoed q bytes) ≡ true
+      rest = and-right (eqb (byteIn bytes 0) first) _ e
+
+      value : valueEchoed q bytes ≡ true
+      value = and-right (eqb (byteIn bytes 1) (q .reg)) _ rest
+
+      at : (i : ℕ) → i < 4 → (getD bytes i 0 ≡ getD (writeCovered q) i 0 → ⊥) → ⊥
+      at zero below other = other (eqb-true (byteIn bytes 0) first (and-left _ _ e))
+      at (suc zero) below other = other (eqb-true (byteIn bytes 1) (q .reg) (and-left _ _ rest))
+      at (suc (suc zero)) below other = other (eqb-true (byteIn bytes 2) (q .value % 256) (and-left _ _ value))
+      at (suc (suc (suc zero))) below other = other (eqb-true (byteIn bytes 3) (q .value / 256) (and-right (eqb (byteIn bytes 2) (q .value % 256)) _ value))
+      at (suc (suc (suc (suc i)))) below other = omega arith
+
+  good-at : (k : ℕ) → Repeated k ≡ true → Other (repeats k) → ⊥
+  good-at zero e = good-two 0 e
+  good-at (suc zero) e = good-four e
+  good-at (suc (suc zero)) e = good-four e
+  good-at (suc (suc (suc zero))) e = good-two (q .reg) e
+  good-at (suc (suc (suc (suc k)))) e = good-two (q .reg) e
+
+  pub bad-echo : echoed q bytes ≡ false → (i : ℕ) × (i < length (echo q)) × (getD bytes i 0 ≡ getD (echo q) i 0 → ⊥)
   unfolding echoed
-  bad-echo e =
-      ⊎-elim (λ f. first-byte (eqb-false (byteIn bytes 0) (shapeOf q .first) f)) (bad-rest (q .kind) refl)
-      (and-false (eqb (byteIn bytes 0) (shapeOf q .first)) (Rest (q .kind)) e)
+  bad-echo e = bad-at (q .kind) e
 
-  second-is : (k : ℕ) → Rest k ≡ true → byteIn bytes 1 ≡ Second k
-  second-is zero e = eqb-true (byteIn bytes 1) 0 e
-  second-is (suc zero) e = eqb-true (byteIn bytes 1) (q .reg) (and-left _ _ e)
-  second-is (suc (suc zero)) e = eqb-true (byteIn bytes 1) (q .reg) (and-left _ _ e)
-  second-is (suc (suc (suc zero))) e = eqb-true (byteIn bytes 1) (q .reg) e
-  second-is (suc (suc (suc (suc k)))) e = eqb-true (byteIn bytes 1) (q .reg) e
+  pub good-echo : echoed q bytes ≡ true → (i : ℕ) × (i < length (echo q)) × (getD bytes i 0 ≡ getD (echo q) i 0 → ⊥) → ⊥
+  unfolding echoed
+  good-echo e = good-at (q .kind) e
 
-  module _ (good : echoed q bytes ≡ true) where
-    rest : Rest (q .kind) ≡ true
-    unfolding echoed
-    rest = and-right (eqb (byteIn bytes 0) (shapeOf q .first)) _ good
+  abbrev pub WrongPec : Type 0
+  WrongPec = (1 ≤ q .kind) × (byteIn bytes (shapeOf q .covered) ≡ pecOf (take (shapeOf q .covered) bytes) → ⊥)
 
-    value : 1 ≤ q .kind → q .kind ≤ 2 → valueEchoed q bytes ≡ true
-    value lo hi = and-right (eqb (byteIn bytes 1) (q .reg)) _ (sym (of-write (q .kind) _ _ _ lo hi) ∙ rest)
-
-    pub good-echo : NotEchoed q bytes → ⊥
-    unfolding echoed
-    good-echo (first-byte other) = other (eqb-true (byteIn bytes 0) (shapeOf q .first) (and-left _ _ good))
-    good-echo (second-byte other) = other (second-is (q .kind) rest)
-    good-echo (low-byte lo hi other) = other (eqb-true (byteIn bytes 2) (q .value % 256) (and-left _ _ (value lo hi)))
-    good-echo (high-byte lo hi other) =
-        other (eqb-true (byteIn bytes 3) (q .value / 256) (and-right (eqb (byteIn bytes 2) (q .value % 256)) _ (value lo hi)))
-
-  pub bad-pec : pecRight q bytes ≡ false → WrongPec q bytes
+  pub bad-pec : pecRight q bytes ≡ false → WrongPec
   bad-pec e =
       ⊎-elim (λ hello. absurd (never (sym (laws.hello-pec q bytes hello)) e))
-      (λ lo. record { kind = lo; wrong = eqb-false (byteIn bytes (shapeOf q .covered)) (pecOf (take (shapeOf q .covered) bytes)) (laws.other-pec q bytes lo ∙ e) })
+      (λ lo. (lo, eqb-false (byteIn bytes (shapeOf q .covered)) (pecOf (take (shapeOf q .covered) bytes)) (laws.other-pec q bytes lo ∙ e)))
       (eq-zero-or-pos (q .kind))
 
-  pub good-pec : pecRight q bytes ≡ true → WrongPec q bytes → ⊥
-  good-pec e w =
-      w .wrong (eqb-true (byteIn bytes (shapeOf q .covered)) (pecOf (take (shapeOf q .covered) bytes)) (laws.other-pec q bytes (w .kind) ∙ e))
+  pub good-pec : pecRight q bytes ≡ true → WrongPec → ⊥
+  good-pec e (lo, wrong) =
+      wrong (eqb-true (byteIn bytes (shapeOf q .covered)) (pecOf (take (shapeOf q .covered) bytes)) (laws.other-pec q bytes lo ∙ e))
 
-  alive-byte : ℕ
+  abbrev pub alive-byte : ℕ
   alive-byte = byteIn bytes (shapeOf q .covered + 1)
 
-  alive-due : ℕ
+  abbrev pub alive-due : ℕ
   alive-due = (q .seed + shapeOf q .acting) % 256
 
-  pub bad-alive : aliveRight q bytes ≡ false → WrongAlive q bytes
-  unfolding alive-byte alive-due
+  pub bad-alive : aliveRight q bytes ≡ false → (1 ≤ q .kind) × (q .alive ≡ 1) × (alive-byte ≡ alive-due → ⊥)
   bad-alive e =
       ⊎-elim (λ hello. absurd (never (sym (laws.hello-alive q bytes hello)) e))
       (λ lo. by-test lo (eqb (q .alive) 1) refl) (eq-zero-or-pos (q .kind))
     where
-      by-test : 1 ≤ q .kind → (t : Bool) → eqb (q .alive) 1 ≡ t → WrongAlive q bytes
+      by-test : 1 ≤ q .kind → (t : Bool) → eqb (q .alive) 1 ≡ t → (1 ≤ q .kind) × (q .alive ≡ 1) × (alive-byte ≡ alive-due → ⊥)
       by-test lo true f =
           let on = eqb-true (q .alive) 1 f in
-          record { kind = lo; on = on; wrong = eqb-false alive-byte alive-due (laws.some-alive q bytes lo on ∙ e) }
+          (lo, on, eqb-false alive-byte alive-due (laws.some-alive q bytes lo on ∙ e))
       by-test lo false f = absurd (never (sym (laws.no-alive q bytes lo (eqb-false (q .alive) 1 f))) e)
 
-  pub good-alive-byte : aliveRight q bytes ≡ true → WrongAlive q bytes → ⊥
-  unfolding alive-byte alive-due
-  good-alive-byte e w = w .wrong (eqb-true alive-byte alive-due (laws.some-alive q bytes (w .kind) (w .on) ∙ e))
+  pub good-alive-byte : aliveRight q bytes ≡ true → (1 ≤ q .kind) × (q .alive ≡ 1) × (alive-byte ≡ alive-due → ⊥) → ⊥
+  good-alive-byte e (lo, on, wrong) = wrong (eqb-true alive-byte alive-due (laws.some-alive q bytes lo on ∙ e))
 
   pub bad-check : eqb (checkByte q bytes) 0 ≡ false → (3 ≤ q .kind) × (checkIn q bytes ≡ 0 → ⊥)
   bad-check e =

@@ -1,14 +1,15 @@
 -- The second call is as promised: the laws of `parts` and `acceptance`, said of the call that `read` answers beside it.
-use mathlib.Core.Path.{_≡_, sym, ap, subst, _∙_}
+use mathlib.Core.Path.{_≡_, refl, sym, ap, subst, _∙_}
 use mathlib.Core.Bool.{Bool, true, cond}
 use mathlib.Core.Logic.{⊎-elim}
-use mathlib.Core.List.{List, []}
+use mathlib.Core.List.{List, [], _∷_}
 use Prim.Native.Nat.{ℕ, _+_, _*_, _≤_, _<_}
 use native.Mathlib.Nat.{eq-zero-or-pos}
 use native.Mathlib.Omega.{arith}
 use lib.ListN.{length}
 use borrow.Author.Tests.{ne-eqb}
-use Rattle.packing.specs.Words.{lineOn}
+use Rattle.lines.specs.Line.{bytesIn}
+use Rattle.packing.specs.Words.{wordsOf, lineOn}
 use Rattle.questions.specs.Question.{covers}
 use Rattle.questions.specs.Shape.{shapeOf}
 use Rattle.questions.specs.declared.question.Question.{Question}
@@ -36,6 +37,16 @@ module _ (q : Question) (line before after : List ℕ) (r : Reading) (done : Rea
   found : 1 ≤ valuesTaken r → 0 < valuesFound q line
   found some = omega (arith, same-taken some)
 
+-- four characters carry two bytes, and these one word
+two-bytes : (part : List ℕ) → length part ≡ 4 → wordsOf (bytesIn part) ≡ partValue part ∷ []
+unfolding wordsOf bytesIn
+two-bytes [] size = absurd (omega arith)
+two-bytes (a ∷ []) size = absurd (omega arith)
+two-bytes (a ∷ b ∷ []) size = absurd (omega arith)
+two-bytes (a ∷ b ∷ c ∷ []) size = absurd (omega arith)
+two-bytes (a ∷ b ∷ c ∷ d ∷ []) size = refl
+two-bytes (a ∷ b ∷ c ∷ d ∷ e ∷ part) size = absurd (omega arith)
+
 -- where there is a place the part has four words, so that it is not empty
 not-empty : (q : Question) (line : List ℕ) (a : ℕ) → 1 ≤ startOf q line a → partOf q line a ≡ [] → ⊥
 not-empty q line a some none =
@@ -61,7 +72,8 @@ second-call = record {
         record {
           there = is ∙ sym (part-there q line a there covered);
           four = ap length is ∙ part-has-four q line a there covered;
-          carries = ap partValue is ∙ sym (second-call-agrees q line before after r done some a covered);
+          carries = two-bytes part (ap length is ∙ part-has-four q line a there covered)
+              ∙ ap (λ (v : ℕ). v ∷ []) (ap partValue is ∙ sym (second-call-agrees q line before after r done some a covered));
         },
       );
   not-covered = λ q line a out part is. is ∙ sym (not-put-to q line a out);

@@ -17,14 +17,14 @@ use Rattle.remainder.specs.Turned.{weight, distance}
 use Rattle.remainder.proofs.Turned.{distance-turned, distance-self}
 use Rattle.pec.specs.Pec.{byteStep}
 use Rattle.questions.specs.declared.question.Question.{Question}
-use Rattle.questions.proofs.Good.{good-count}
+use Rattle.questions.proofs.Good.{good-alive, good-count}
 use Rattle.reader.specs.Read.{ReadDone}
 use Rattle.promises.specs.Demand3.{ReadsAll, answerLine}
-use Rattle.promises.specs.WhereItEnds.{inDevice, damage, Undetected}
-use Rattle.promises.proofs.Apart.{varied, start, lines-apart}
+use Rattle.promises.specs.WhereItEnds.{damage, Undetected}
+use Rattle.promises.proofs.Apart.{varied, asks-all, start, lines-apart}
 use Rattle.promises.proofs.Demand3.{all-values, demand-3}
 use Rattle.promises.proofs.MasksOnWire.{by-masks}
-use Rattle.promises.proofs.TurnedAnswer.{mask, others, same, others-read, line-is-turned, damage-long}
+use Rattle.promises.proofs.TurnedAnswer.{inDevice, masksFor, mask, others, same, others-read, line-is-turned, masks-on-line, damage-is}
 
 -- with `least` devices or more, the masks turn over `apart` bits of values and PEC: one test for every device count
 unfoldable pub ends : (device bits least apart : ℕ) → ℕ → Bool
@@ -46,18 +46,19 @@ module _ (q : Question) (values : List ℕ) (all : ReadsAll q values) (device bi
       let line = answerLine q values in
       let values′ = others q values all device bits small in
       let read′ = others-read q values all device bits small in
-      let long = damage-long q values all device bits small in
+      let long = masks-on-line q values all device bits small in
       let is = line-is-turned q values all device bits small in
-      let most = good-count q (all .asks .good) (omega arith) .1 in
-      let apart-by = lines-apart q (all .asks) values values′ (all-values q values all) (all-values q values′ read′)
+      let most = good-count q (all .good) (omega arith) .1 in
+      let apart-by = lines-apart q (asks-all q values all) values values′ (all-values q values all) (all-values q values′ read′)
       ∙ ap (λ (d : ℕ). 2 * d)
-      (by-masks (start q (all .asks)) values (mask q values all device bits small) (same q values all device bits small)
+      (by-masks (start q (asks-all q values all)) values (mask q values all device bits small) (same q values all device bits small)
       ∙ end-at device bits least apart (q .n) computed lo most) in
-      record {
+      subst (λ (masks : List ℕ). Undetected q values masks (2 * apart))
+      (sym (damage-is (q .n) (q .alive) device bits (good-count q (all .good) (omega arith) .0) most (good-alive q (all .good)) small)) record {
         every = long;
-        turns = sym (distance-turned line (damage (q .n) (q .alive) device bits) long) ∙ ap (distance line) is ∙ apart-by;
+        turns = sym (distance-turned line (masksFor (q .n) (q .alive) device bits) long) ∙ ap (distance line) is ∙ apart-by;
         others = values′;
         differ = λ e. omega (arith, apart-by, ap (λ (v : List ℕ). distance line (answerLine q v)) (sym e), distance-self line);
-        accepted = λ before after r room done. demand-3 .undamaged q values′ read′ before after r room
+        accepted = λ before after r room done. demand-3 .undamaged q values′ read′ before after r (omega (arith, room, read′ .number))
             (subst (λ (l : List ℕ). ReadDone q l before after r) is done);
       }

@@ -3,17 +3,17 @@
 use mathlib.Core.Path.{_≡_}
 use mathlib.Core.Logic.{_⊎_}
 use mathlib.Core.List.{List, [], _∷_}
-use Prim.Native.Nat.{ℕ}
+use Prim.Native.Nat.{ℕ, _%_}
 
 -- a row as it applies to a call: its number, and when it is given
-pub record Row : Type 1 where
-  pub number : ℕ
-  pub given : Type 0
-
-abbrev pub row : ℕ → Type 0 → Row
-row number given = record { number = number; given = given }
+pub data Row : Type 1 where
+  row : (number : ℕ) (given : Type 0) → Row
 
 -- the number due, of rows in the order of their checks: that of the first row that is given; 0 where none is
 abbrev pub NumberDue : List Row → (number : ℕ) → Type 0
-NumberDue [] number = number ≡ 0
-NumberDue (first ∷ rows) number = (first .given × (number ≡ first .number)) ⊎ ((first .given → ⊥) × NumberDue rows number)
+NumberDue [] due = due ≡ 0
+NumberDue (row number given ∷ rows) due = (given × (due ≡ number)) ⊎ ((given → ⊥) × NumberDue rows due)
+
+-- the C side's answers carry their number in the lowest eight bits
+abbrev pub packedNumber : ℕ → ℕ
+packedNumber r = r % 256

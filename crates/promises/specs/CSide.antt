@@ -5,7 +5,7 @@ use Prim.Native.Nat.{ℕ, _/_, _%_}
 use Rattle.readings.specs.declared.Refusal.the-variants as row
 use Rattle.readings.specs.declared.Reading.{Reading}
 use Rattle.readings.specs.declared.Reading.the-variants.{Counted, Written, Values, Refused}
-use Rattle.promises.specs.Demand1.{packedNumber}
+use Rattle.promises.specs.ByNumber.{packedNumber}
 
 -- bits 16 to 31 of an answer
 abbrev pub upperHalf : ℕ → ℕ

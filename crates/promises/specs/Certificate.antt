@@ -7,11 +7,10 @@
 -- come after the write and cover the device the latest shows the value written, O where it shows another, U where there is no such read. Nothing
 -- else is printed, and without a good write there is no D line.
 use mathlib.Core.Path.{_≡_}
-use mathlib.Core.List.{List, [], _∷_, _++_}
-use Prim.Native.Nat.{ℕ, suc, _/_, _%_, _≤_}
+use mathlib.Core.List.{List, [], _++_, map, Forall₂}
+use Prim.Native.Nat.{ℕ, _/_, _≤_}
 use lib.ListN.{length, take}
 use Rattle.remainder.specs.Turned.{Bytes}
-use Rattle.lines.specs.Write.{atFront}
 use Rattle.readings.specs.Reading.{numberOf, valuesTaken}
 use Rattle.readings.specs.declared.Reading.{Reading}
 use Rattle.reader.specs.Read.{ReadDone}
@@ -20,11 +19,12 @@ use Rattle.jobs.specs.Format.{Entry, asked}
 use Rattle.jobs.specs.Encoded.{Encodes}
 use Rattle.letters.specs.Letters.{Heard}
 use Rattle.letters.specs.Meaning.{None, goodWrite, Deserves}
-use Rattle.printing.specs.Text.{headLine, entryLine, deviceLine}
+use Rattle.printing.specs.Text.{headLine, deviceLine, firstLines, entryLines}
 use Rattle.certificate.specs.Certificate.{CertificateDone, certifiedNumber, mostText}
-use Rattle.certificate.specs.declared.Certified.{Certified}
 use Rattle.certificate.specs.declared.Certified.the-variants as certified
 use Rattle.bmc.specs.Exports.{CertificateBytesDone}
+use Rattle.promises.specs.ByNumber.{packedNumber}
+use Rattle.promises.specs.WhereDue.{WhereDue}
 
 -- What is heard of an entry is what the reader says of it: for every call of `read` on the entry's question and words, with an output of 32
 -- words, the reading is what the call answers, and the values are what it leaves at the front of the output.
@@ -33,90 +33,51 @@ pub record FromReader (h : Header) (e : Entry) (x : Heard) : Type 0 where
   pub answer : (before after : List ℕ) (r : Reading) → length before ≡ 32 → ReadDone (asked h e) (e .words) before after r
       → (x .reading ≡ r) × (x .values ≡ take (valuesTaken r) after)
 
-pub data AllFromReader (h : Header) : List Entry → List Heard → Type 0 where
-  none : AllFromReader h [] []
-  more : (e : Entry) (es : List Entry) (x : Heard) (xs : List Heard) → FromReader h e x → AllFromReader h es xs → AllFromReader h (e ∷ es) (x ∷ xs)
+-- device a's line: `D a v` where it deserves the letter v, and none where it deserves no letter
+pub data DeviceLine (heard : List Heard) (a : ℕ) : (line : List ℕ) → Type 0 where
+  lettered : (v : ℕ) → Deserves heard a v → DeviceLine heard a (deviceLine a v)
+  none : ((v : ℕ) → Deserves heard a v → ⊥) → DeviceLine heard a []
 
--- the E lines: one for each entry, counted on from i
-unfoldable pub entryLinesFrom : (i : ℕ) → List Heard → List ℕ
-entryLinesFrom i [] = []
-entryLinesFrom i (x ∷ xs) = entryLine i (numberOf (x .reading)) ++ entryLinesFrom (suc i) xs
+-- the lines of a text, of a number for each entry and a line, or none, for each device: the first one, the E lines counted from 1, the D lines in
+-- address order; no chain has more than 32 devices
+abbrev pub linesOf : (n : ℕ) (numbers : List ℕ) (line : (a : ℕ) → List ℕ) → List ℕ
+linesOf n numbers line = headLine n ++ (entryLines numbers ++ firstLines line 32)
 
--- a device and its letter
-pub record Lettered : Type 0 where
-  pub device : ℕ
-  pub letter : ℕ
-
--- the D lines: one for each of them
-unfoldable pub deviceLinesOf : List Lettered → List ℕ
-deviceLinesOf [] = []
-deviceLinesOf (d ∷ ds) = deviceLine (d .device) (d .letter) ++ deviceLinesOf ds
-
--- the lines of a text: the first one, the E lines counted from 1, the D lines
-abbrev pub linesOf : (n : ℕ) → List Heard → List Lettered → List ℕ
-linesOf n heard devices = headLine n ++ (entryLinesFrom 1 heard ++ deviceLinesOf devices)
-
--- in address order, no device twice
-pub data RisingFrom : (least : ℕ) → List Lettered → Type 0 where
-  none : (least : ℕ) → RisingFrom least []
-  more : (least : ℕ) (d : Lettered) (ds : List Lettered) → least ≤ d .device → RisingFrom (suc (d .device)) ds → RisingFrom least (d ∷ ds)
-
--- a line `D a v` is among them
-pub data HasLine (a v : ℕ) : List Lettered → Type 0 where
-  here : {d : Lettered} {ds : List Lettered} → d .device ≡ a → d .letter ≡ v → HasLine a v (d ∷ ds)
-  later : {d : Lettered} {ds : List Lettered} → HasLine a v ds → HasLine a v (d ∷ ds)
+-- the number that the reader gives each entry
+abbrev pub numbersOf : List Heard → List ℕ
+numbersOf heard = map (λ (x : Heard). numberOf (x .reading)) heard
 
 -- the certificate's text for a header and entries
 pub record CertificateText (h : Header) (es : List Entry) (text : List ℕ) : Type 0 where
-  -- the entries as the reader says,
+  -- the entries as the reader says, one by one,
   pub heard : List Heard
-  pub from-reader : AllFromReader h es heard
-  -- the devices that have a line: those that deserve a letter, with that letter, and all of those, in address order,
-  pub devices : List Lettered
-  pub deserved : (a v : ℕ) → HasLine a v devices → Deserves heard a v
-  pub every : (a v : ℕ) → Deserves heard a v → HasLine a v devices
-  pub rising : RisingFrom 0 devices
-  -- and their lines, and nothing else
-  pub whole : text ≡ linesOf (h .n) heard devices
+  pub from-reader : Forall₂ (FromReader h) es heard
+  -- the devices' lines,
+  pub line : (a : ℕ) → List ℕ
+  pub deserved : (a : ℕ) → DeviceLine heard a (line a)
+  -- and these lines, and nothing else
+  pub whole : text ≡ linesOf (h .n) (numbersOf heard) line
 
 -- the certificate's text for a file: the file is the encoding of a header and entries that keep the rules, and this is their text
-pub record TextFor (file text : List ℕ) : Type 0 where
-  pub header : Header
-  pub entries : List Entry
-  pub encoded : Encodes header entries file
-  pub printed : CertificateText header entries text
+abbrev pub TextFor : (file text : List ℕ) → Type 0
+TextFor file text = (h : Header) × (es : List Entry) × Encodes h es file × CertificateText h es text
 
 -- when a certificate is due: this is the file's text, and it has room
-abbrev pub CertificateDue : (file text before : List ℕ) → Type 0
-CertificateDue file text before = TextFor file text × (length text ≤ length before)
-
--- and what the call then answers and leaves: the text at the front of the lent memory, the rest as it was
-pub record Wrote (text before after : List ℕ) (r : Certified) : Type 0 where
-  pub says : r ≡ certified.Bytes (length text)
-  pub leaves : after ≡ atFront text before
-
--- C's call: 0 in bits 0 to 7, how many bytes were written in bits 8 to 31
-pub record WrotePacked (text before after : List ℕ) (r : ℕ) : Type 0 where
-  pub number : r % 256 ≡ 0
-  pub bytes : r / 256 ≡ length text
-  pub leaves : after ≡ atFront text before
+abbrev pub CertificateDue : (file before text : List ℕ) → Type 0
+CertificateDue file before text = TextFor file text × (length text ≤ length before)
 
 pub record PrintedCertificate : Type 0 where
-  -- what is written was due: a file of bytes that is accepted is a job file, and its text is what was written;
-  pub only-then : (file before after : List ℕ) (r : Certified) → Bytes file → CertificateDone file before after r
-      → certifiedNumber r ≡ 0 → (text : List ℕ) × CertificateDue file text before × Wrote text before after r
-  -- and where a text is due, it is written
-  pub always-then : (file before after : List ℕ) (r : Certified) → CertificateDone file before after r
-      → (text : List ℕ) → CertificateDue file text before → (certifiedNumber r ≡ 0) × Wrote text before after r
-  -- the same of C's call
-  pub bytes-only-then : (file before after : List ℕ) (r : ℕ) → Bytes file → CertificateBytesDone file before after r
-      → r % 256 ≡ 0 → (text : List ℕ) × CertificateDue file text before × WrotePacked text before after r
-  pub bytes-always-then : (file before after : List ℕ) (r : ℕ) → CertificateBytesDone file before after r
-      → (text : List ℕ) → CertificateDue file text before → WrotePacked text before after r
+  -- written where it is due: by `certify`, whose answer says how many bytes were written;
+  pub certify : (file before : List ℕ) → Bytes file
+      → WhereDue certifiedNumber before (CertificateDone file before) Unit (CertificateDue file before)
+      (λ text r. r ≡ certified.Bytes (length text)) (λ text. text)
+  -- and by C's call, where bits 8 to 31 say so
+  pub in-bytes : (file before : List ℕ) → Bytes file
+      → WhereDue packedNumber before (CertificateBytesDone file before) Unit (CertificateDue file before)
+      (λ text r. r / 256 ≡ length text) (λ text. text)
   -- every job file has a text, 82,143 bytes hold it, and it has no other
   pub every-job : (h : Header) (es : List Entry) (file : List ℕ) → Encodes h es file
       → (text : List ℕ) × CertificateText h es text × (length text ≤ mostText)
   pub one-text : (h : Header) (es : List Entry) (text text′ : List ℕ) → CertificateText h es text → CertificateText h es text′ → text ≡ text′
   -- without a good write there is no D line
-  pub no-write : (h : Header) (es : List Entry) (text : List ℕ) (c : CertificateText h es text) → None goodWrite (c .heard)
-      → text ≡ linesOf (h .n) (c .heard) []
+  pub no-write : (h : Header) (es : List Entry) (text : List ℕ) (c : CertificateText h es text) → None goodWrite (c .heard) → (a : ℕ) → c .line a ≡ []

@@ -6,7 +6,7 @@ use mathlib.Core.Path.{_≡_}
 use mathlib.Core.Bool.{true, false}
 use mathlib.Core.Logic.{_⊎_}
 use mathlib.Core.List.{List, [], _∷_, _++_}
-use Prim.Native.Nat.{ℕ, suc, _/_, _%_, _≤_, _<_}
+use Prim.Native.Nat.{ℕ, suc, _/_, _≤_, _<_}
 use lib.IntN.{ℤ}
 use lib.Ieee.{Float}
 use lib.ListN.{length, getD, drop}
@@ -35,8 +35,8 @@ use Rattle.jobs.specs.Check.{openedOf, openedNumber, nextOf, nextNumber}
 use Rattle.letters.specs.declared.Standing.{Standing}
 use Rattle.listening.specs.declared.Listened.{Listened}
 use Rattle.listening.specs.Listening.{listenOf}
-use Rattle.printing.specs.Text.{certificateText}
-use Rattle.printing.specs.Print.{PrintDone, printedNumber}
+use Rattle.printing.specs.Text.{deviceLineIf}
+use Rattle.printing.specs.Print.{mostEntries, PrintDone, printedNumber}
 use Rattle.certificate.specs.Certificate.{CertificateDone, certifiedNumber}
 use Rattle.rehearsal.specs.Rehearsal.{RehearsalDone, rehearsedNumber}
 use Rattle.c_reader.specs.ReadBytes.{ReadBytesDone}
@@ -46,11 +46,11 @@ use Rattle.c_cells.specs.CellBytes.{CellDone}
 use Rattle.c_cells.specs.CellsBytes.{CellsDone}
 use Rattle.c_twin.specs.TwinBytes.{PowerBytesDone, StepBytesDone, RunBytesDone}
 use Rattle.bmc.specs.Exports.{CertificateBytesDone}
-use Rattle.promises.specs.ByNumber.{Row, row, NumberDue}
+use Rattle.promises.specs.ByNumber.{Row, row, NumberDue, packedNumber}
 use Rattle.promises.specs.Rows.{readRows}
-use Rattle.promises.specs.CallRows.{room, commandRows, powerOnRows, chainRows, stepRows, spanRows, stepBytesRows, runBytesRows}
-use Rattle.promises.specs.CallRows.{NoEntry, openRows, nextRows, printRows, certifyRows, rehearseRows}
-use Rattle.promises.specs.CallRows.{cellRows, cellIntoRows, cellsIntoRows}
+use Rattle.promises.specs.Certificate.{linesOf}
+use Rattle.promises.specs.CallRows.{room, commandRows, NoChain, NoSpan, twinRows, twinBytesRows}
+use Rattle.promises.specs.CallRows.{NoJobFile, NoEntry, nextRows, certifyRows, rehearseRows, cellRows}
 
 -- turned away: an answer's number is a row's, and not 0
 abbrev pub TurnedAway : (number : ℕ) → Type 0
@@ -77,13 +77,12 @@ Returns answer r = r ≡ answer
 abbrev pub Replies : {Answer : Type 0} (rows : List Row) (number : Answer → ℕ) (Contract : Answer → Type 0) → Type 0
 Replies rows number Contract = Answers {Memory = Unit} rows number tt (λ after. Contract)
 
--- the C side's answers carry their number in the lowest eight bits
-abbrev pub packedNumber : ℕ → ℕ
-packedNumber r = r % 256
-
--- a call that refuses nothing has no number but 0
-abbrev pub noNumber : {Answer : Type 0} → Answer → ℕ
-noNumber r = 0
+-- the same of a call of the twin: it is lent registers and an output
+abbrev pub Steps : {Answer : Type 0} (rows : (size lent line : ℕ) → List Row) (number : Answer → ℕ)
+    (Contract : (memory memoryAfter line out outAfter : List ℕ) → Answer → Type 0) → Type 0
+Steps rows number Contract =
+    (memory line out : List ℕ) → Answers {Memory = List ℕ × List ℕ} (rows (length memory) (length out) (length line)) number (memory, out)
+    (λ after. Contract memory (after .0) line out (after .1))
 
 -- what a call of C's twelve cells has done for cell k + 1, whose register is word k of the registers' bytes, low byte first (m and v are for
 -- places past the end, and can be any)
@@ -99,9 +98,9 @@ pub record OwnCell (mask bipolar : ℕ) (registers : List ℕ) (microvolts micro
       → CellDone (suc k) mask (wordAt registers k) bipolar (getD microvolts k m) (getD microvoltsAfter k m) (getD volts k v) (getD voltsAfter k v) (getD answersAfter k 0)
 
 pub record Demand1 : Type 0 where
-  -- the reader and the second call (what that hands back: SecondCall.antt); the command writer, and the writing of a line
+  -- the reader and the second call, which refuses nothing (what it hands back: SecondCall.antt); the command writer, and the writing of a line
   pub read : (q : Question) (line out : List ℕ) → Answers (readRows q line (length out)) numberOf out (ReadDone q line out)
-  pub register-part : (q : Question) (line : List ℕ) (device : ℕ) → Replies [] noNumber (Returns (partOf q line device))
+  pub register-part : (q : Question) (line : List ℕ) (device : ℕ) → Replies [] (λ part. 0) (Returns (partOf q line device))
   pub write-command : (q : Question) (out : List ℕ) → Answers (commandRows q (length out)) issuedNumber out (CommandPut q out)
   pub put-line : (bytes out : List ℕ) → Answers (room (length out) (length (lineOf bytes)) ∷ []) putNumber out (LinePut bytes out)
   -- a cell; twelve cells, each by its own register
@@ -111,19 +110,13 @@ pub record Demand1 : Type 0 where
   pub each-cell : (range : Range) (mask : ℕ) (registers : List Register) (cells : List Cell) → Returns (cellsOf range mask registers) cells
       → (k : ℕ) → k < length registers
       → NumberDue (cellRows mask (suc k) (getD registers k (record { 0 = 0 }) .0)) (cellNumber (getD cells k NotMeasured))
-  -- the twin: a step, a span of devices and a chain are lent registers and an output
-  pub power-on : (n : ℕ) (memory : List ℕ) → Answers (powerOnRows 256 n (length memory)) poweredNumber memory (PoweredOn n memory)
-  pub step : (n device : ℕ) (memory line out : List ℕ)
-      → Answers {Memory = List ℕ × List ℕ} (stepRows n device (length memory) (length out) (length line)) steppedNumber (memory, out)
-      (λ after. StepDone n device memory (after .0) line out (after .1))
-  pub run-span : (n from to : ℕ) (memory line out : List ℕ)
-      → Answers {Memory = List ℕ × List ℕ} (spanRows n from to (length memory) (length out) (length line)) steppedNumber (memory, out)
-      (λ after. SpanDone n from to memory (after .0) line out (after .1))
-  pub run-chain : (n : ℕ) (memory line out : List ℕ)
-      → Answers {Memory = List ℕ × List ℕ} (chainRows n (length memory) (length out) (length line)) steppedNumber (memory, out)
-      (λ after. ChainDone n memory (after .0) line out (after .1))
-  -- a job file opened, its entries taken out, and one heard; a certificate printed
-  pub open-file : (file : List ℕ) → Bytes file → Replies (openRows file) openedNumber (Returns (openedOf file))
+  -- the twin: power-on; a step, TWIN also where its device is not in the chain; a span of devices; a chain
+  pub power-on : (n : ℕ) (memory : List ℕ) → Answers (row 15 (NoChain 256 n (length memory)) ∷ []) poweredNumber memory (PoweredOn n memory)
+  pub step : (n device : ℕ) → Steps (twinRows (λ size. NoChain 256 n size ⊎ (n ≤ device))) steppedNumber (StepDone n device)
+  pub run-span : (n from to : ℕ) → Steps (twinRows (NoSpan 256 n from to)) steppedNumber (SpanDone n from to)
+  pub run-chain : (n : ℕ) → Steps (twinRows (NoChain 256 n)) steppedNumber (ChainDone n)
+  -- a job file opened, its entries taken out, and one heard; a certificate printed, FILE for more entries than a job file can have
+  pub open-file : (file : List ℕ) → Bytes file → Replies (row 14 (NoJobFile file) ∷ []) openedNumber (Returns (openedOf file))
   pub next-entry : (h : Header) (file : List ℕ) (c : Cursor) → Bytes file → Replies (nextRows h (drop (c .at) file)) nextNumber (Returns (nextOf h file c))
   -- (heard by the reader's own rows, with room for the values of 32 devices, where the bytes begin with an entry that keeps the rules; else FILE)
   pub listen : (h : Header) (e : Entry) (later : List ℕ) (s : Standing) → Fits e → Keeps h e
@@ -131,33 +124,33 @@ pub record Demand1 : Type 0 where
   pub listen-file : (h : Header) (front : List ℕ) (s : Standing) → Bytes front → NoEntry h front
       → Replies (row 14 (NoEntry h front) ∷ []) (λ (r : Listened). r .number) (Returns (listenOf h front s))
   pub print : (n : ℕ) (numbers : List ℕ) (s : Standing) (text : List ℕ)
-      → Answers (printRows (length numbers) (length text) (length (certificateText n numbers s))) printedNumber text (PrintDone n numbers s text)
+      → Answers (row 14 (mostEntries < length numbers)
+      ∷ room (length text) (length (linesOf n numbers (λ a. deviceLineIf (s .write) a (getD (s .letters) a 0)))) ∷ [])
+      printedNumber text (PrintDone n numbers s text)
   -- the certificate and the rehearsal, of every file of bytes
   pub certify : (file text : List ℕ) → Bytes file → Answers (certifyRows file (length text)) certifiedNumber text (CertificateDone file text)
   pub rehearse : (file out : List ℕ) → Bytes file → Answers (rehearseRows file (length out)) rehearsedNumber out (RehearsalDone file out)
   -- the C side's calls, over bytes: an odd number of them is as no line at all, and so LENGTH; two are room for a word
   pub read-bytes : (q : Question) (line out : List ℕ) → Answers (readRows q (lineOn line) (length out / 2)) packedNumber out (ReadBytesDone q line out)
-  pub pec : (bytes : List ℕ) → Replies [] noNumber (Returns (pecOf bytes))
-  pub part-bytes : (q : Question) (device : ℕ) (line : List ℕ) → Replies [] noNumber (Returns (partIn q device line))
+  pub pec : (bytes : List ℕ) → Replies [] (λ pec. 0) (Returns (pecOf bytes))
+  pub part-bytes : (q : Question) (device : ℕ) (line : List ℕ) → Replies [] (λ part. 0) (Returns (partIn q device line))
   pub command-bytes : (q : Question) (out : List ℕ) → Answers (commandRows q (length out / 2)) packedNumber out (CommandBytesDone q out)
-  -- a cell's voltage goes into two lent numbers, twelve cells' into two lists, with a third for their answers
+  -- a cell's voltage goes into two lent numbers, twelve cells' into two lists, with a third for their answers: QUESTION for a range that is neither 0
+  -- nor 1; of twelve cells ROOM, and LENGTH for registers that are not 24 bytes
   pub cell-into : (cell enabled register bipolar : ℕ) (microvolts : ℤ) (volts : Float)
-      → Answers {Memory = ℤ × Float} (cellIntoRows bipolar enabled cell register) packedNumber (microvolts, volts)
+      → Answers {Memory = ℤ × Float} (row 1 (2 ≤ bipolar) ∷ cellRows enabled cell register) packedNumber (microvolts, volts)
       (λ after. CellDone cell enabled register bipolar microvolts (after .0) volts (after .1))
   pub cells-into : (enabled bipolar : ℕ) (registers : List ℕ) (microvolts : List ℤ) (volts : List Float) (answers : List ℕ)
       → Answers {Memory = List ℤ × List Float × List ℕ}
-      (cellsIntoRows bipolar (length registers) (length microvolts) (length volts) (length answers)) packedNumber (microvolts, volts, answers)
+      (row 1 (2 ≤ bipolar) ∷ row 2 ((length microvolts < 12) ⊎ ((length volts < 12) ⊎ (length answers < 12))) ∷ row 3 (length registers ≡ 24 → ⊥) ∷ [])
+      packedNumber (microvolts, volts, answers)
       (λ after. CellsDone enabled bipolar registers microvolts (after .0) volts (after .1) answers (after .2))
   -- accepted, that call has answered each of the twelve by its own register
   pub each-cell-into : (mask bipolar : ℕ) (registers : List ℕ) (microvolts microvoltsAfter : List ℤ) (volts voltsAfter : List Float)
       (answers answersAfter : List ℕ) (r : ℕ) → CellsDone mask bipolar registers microvolts microvoltsAfter volts voltsAfter answers answersAfter r
       → packedNumber r ≡ 0 → (k : ℕ) → k < 12 → OwnCell mask bipolar registers microvolts microvoltsAfter volts voltsAfter answersAfter k
-  pub power-on-bytes : (n : ℕ) (memory : List ℕ) → Answers (powerOnRows 512 n (length memory)) packedNumber memory (PowerBytesDone n memory)
-  pub step-bytes : (n device : ℕ) (memory line out : List ℕ)
-      → Answers {Memory = List ℕ × List ℕ} (stepBytesRows n device (length memory) (length out) (length line)) packedNumber (memory, out)
-      (λ after. StepBytesDone n device memory (after .0) line out (after .1))
-  pub run-bytes : (n : ℕ) (memory line out : List ℕ)
-      → Answers {Memory = List ℕ × List ℕ} (runBytesRows n (length memory) (length out) (length line)) packedNumber (memory, out)
-      (λ after. RunBytesDone n memory (after .0) line out (after .1))
+  pub power-on-bytes : (n : ℕ) (memory : List ℕ) → Answers (row 15 (NoChain 512 n (length memory)) ∷ []) packedNumber memory (PowerBytesDone n memory)
+  pub step-bytes : (n device : ℕ) → Steps (twinBytesRows (λ size. NoChain 512 n size ⊎ (n ≤ device))) packedNumber (StepBytesDone n device)
+  pub run-bytes : (n : ℕ) → Steps (twinBytesRows (NoChain 512 n)) packedNumber (RunBytesDone n)
   pub certificate-bytes : (file text : List ℕ) → Bytes file
       → Answers (certifyRows file (length text)) packedNumber text (CertificateBytesDone file text)

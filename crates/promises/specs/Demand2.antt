@@ -12,12 +12,10 @@ use mathlib.Core.List.{List}
 use Prim.Native.Nat.{ℕ, _≤_}
 use lib.ListN.{length}
 use Rattle.lines.specs.Line.{bytesOf}
-use Rattle.lines.specs.Write.{atFront}
 use Rattle.questions.specs.Question.{helloAll, goodQuestion}
 use Rattle.questions.specs.Shape.{shapeOf}
 use Rattle.questions.specs.declared.question.Question.{Question}
 use Rattle.commands.specs.Command.{commandLine, CommandPut, issuedNumber}
-use Rattle.commands.specs.declared.Issued.{Issued}
 use Rattle.commands.specs.declared.Issued.the-variants.{Words}
 use Rattle.readings.specs.Reading.{numberOf}
 use Rattle.readings.specs.declared.Refusal.{Refusal}
@@ -27,21 +25,12 @@ use Rattle.reader.specs.Read.{ReadDone}
 use Rattle.acceptance.specs.Answer.{AnswerTo, Sendable, readingOf, handedOut}
 use Rattle.promises.specs.ByNumber.{NumberDue}
 use Rattle.promises.specs.Rows.{countIn, readRows, Carried}
+use Rattle.promises.specs.WhereDue.{WhereDue}
 use Rattle.promises.specs.Certificate.{PrintedCertificate}
 
--- when a command is due, where so many words are lent: the question is good, and its line has room
-pub record CommandDue (q : Question) (lent : ℕ) : Type 0 where
-  pub good : goodQuestion q ≡ true
-  pub room : length (commandLine q) ≤ lent
-
--- and which: the line of the table's command bytes stands at the front of the output, the rest as it was
-pub record CommandOut (q : Question) (before after : List ℕ) (r : Issued) : Type 0 where
-  pub words : r ≡ Words (length (commandLine q))
-  pub line : after ≡ atFront (commandLine q) before
-
--- accepted: the reading has no row's number
-abbrev pub Accepted : Reading → Type 0
-Accepted reading = numberOf reading ≡ 0
+-- when a command is due, where so many words are lent: the question is good, this is the line of the table's command bytes, and it has room
+abbrev pub CommandDue : Question → (lent : ℕ) → (line : List ℕ) → Type 0
+CommandDue q lent line = (goodQuestion q ≡ true) × (line ≡ commandLine q) × (length line ≤ lent)
 
 -- when acceptance is due, where so many values are lent room: the question is good, the values have room, and the line is the line of the right
 -- answer for these values
@@ -50,26 +39,16 @@ pub record Due (q : Question) (line : List ℕ) (lent : ℕ) (values : List ℕ)
   pub room : shapeOf q .values ≤ lent
   pub answer : AnswerTo q values line
 
--- and with which values: the reading is that answer's, and its values stand at the front of the output
-pub record With (q : Question) (values before after : List ℕ) (r : Reading) : Type 0 where
-  pub reading : r ≡ readingOf q values
-  pub output : after ≡ atFront (handedOut q values) before
-
 pub record Demand2 : Type 0 where
-  -- commands: written only where due, and always where due
-  pub command-only-then : (q : Question) (before after : List ℕ) (r : Issued) → CommandPut q before after r
-      → issuedNumber r ≡ 0 → CommandDue q (length before) × CommandOut q before after r
-  pub command-always-then : (q : Question) (before after : List ℕ) (r : Issued) → CommandPut q before after r
-      → CommandDue q (length before) → CommandOut q before after r
-  -- answers: what is accepted was due, and is handed out with the values of that answer,
-  pub only-then : (q : Question) (line before after : List ℕ) (r : Reading) → ReadDone q line before after r
-      → Accepted r → (values : List ℕ) × Due q line (length before) values × With q values before after r
-  -- and where it is due, for any values, it is accepted with those values
-  pub always-then : (q : Question) (line before after : List ℕ) (r : Reading) → ReadDone q line before after r
-      → Sendable q → (values : List ℕ) → Due q line (length before) values → Accepted r × With q values before after r
+  -- commands: written where due, and the answer says how many words they have
+  pub commands : (q : Question) (before : List ℕ)
+      → WhereDue issuedNumber before (CommandPut q before) Unit (CommandDue q (length before)) (λ line r. r ≡ Words (length line)) (λ line. line)
+  -- answers: accepted where due, for some values; the reading is that answer's, and those values are handed out
+  pub answers : (q : Question) (line before : List ℕ)
+      → WhereDue numberOf before (ReadDone q line before) (Sendable q) (Due q line (length before)) (λ values r. r ≡ readingOf q values) (handedOut q)
   -- HELLOALL's count is the third byte of the line, whatever n the question has
   pub hello-count : (q : Question) (line before after : List ℕ) (r : Reading) → ReadDone q line before after r
-      → q .kind ≡ helloAll → Accepted r → r ≡ Counted (countIn (bytesOf line))
+      → q .kind ≡ helloAll → numberOf r ≡ 0 → r ≡ Counted (countIn (bytesOf line))
   -- turned away exactly where a row of the table is given, and by the first that is,
   pub by-rows : (q : Question) (line before after : List ℕ) (r : Reading) → ReadDone q line before after r
       → NumberDue (readRows q line (length before)) (numberOf r)

@@ -3,9 +3,10 @@
 -- Claimed of every good READALL question, alive on and off, any seed, any register, any values; of bits in any places; and of every answer that
 -- meets `read`'s contract.
 use mathlib.Core.Path.{_≡_}
-use mathlib.Core.Bool.{true}
+use mathlib.Core.Bool.{true, cond}
 use mathlib.Core.List.{List}
 use Prim.Native.Nat.{ℕ, _≤_}
+use lib.Dec.{leb}
 use lib.ListN.{length}
 use Rattle.remainder.specs.Turned.{turned, weight}
 use Rattle.lines.specs.Line.{lineOf}
@@ -20,15 +21,11 @@ use Rattle.reader.specs.Read.{ReadDone}
 use Rattle.acceptance.specs.Answer.{Registers, Sendable}
 use Rattle.promises.specs.Demand1.{TurnedAway}
 
--- a good READALL question,
-pub record AsksAll (q : Question) : Type 0 where
+-- a good READALL question, and a register's value for each of its devices, in address order
+pub record ReadsAll (q : Question) (values : List ℕ) : Type 0 where
   pub kind : q .kind ≡ readAll
   pub good : goodQuestion q ≡ true
   pub sends : Sendable q
-
--- and a register's value for each of its devices, in address order
-pub record ReadsAll (q : Question) (values : List ℕ) : Type 0 where
-  pub asks : AsksAll q
   pub number : length values ≡ q .n
   pub registers : Registers values
 
@@ -42,16 +39,22 @@ pub record Damage (line masks : List ℕ) (most : ℕ) : Type 0 where
   pub some : 1 ≤ weight masks
   pub few : weight masks ≤ most
 
--- one to so many line bits turned over, with from `least` to `most` devices: the line is turned away, and the output stays as it was
-abbrev pub Detected : (least most bits : ℕ) → Type 0
-Detected least most bits =
-    (q : Question) (values : List ℕ) → ReadsAll q values → least ≤ q .n → q .n ≤ most → (masks : List ℕ) → Damage (answerLine q values) masks bits
-    → (before after : List ℕ) (r : Reading) → ReadDone q (turned (answerLine q values) masks) before after r
-    → TurnedAway (numberOf r) × (after ≡ before)
+-- how many turned bits are always found: five with 1 to 14 devices, three with 15 to 32
+abbrev pub mostBits : (n : ℕ) → ℕ
+mostBits n = cond (leb n 14) 5 3
 
-pub record Demand3 : Type 0 where
-  pub undamaged : (q : Question) (values : List ℕ) → ReadsAll q values
-      → (before after : List ℕ) (r : Reading) → q .n ≤ length before → ReadDone q (answerLine q values) before after r
-      → (r ≡ Values (q .n)) × (after ≡ atFront values before)
-  pub five-bits : Detected 1 14 5
-  pub three-bits : Detected 15 32 3
+-- what is claimed of the reader as a call has it: its contract, an answer's number, how words are passed, as they are or as bytes, and when an answer
+-- stands for a reading
+pub record Detects {Answer : Type 0} (Contract : Question → (line before after : List ℕ) → Answer → Type 0) (number : Answer → ℕ)
+    (passed : List ℕ → List ℕ) (StandsFor : Answer → Reading → Type 0) : Type 0 where
+  -- undamaged, the line is accepted, given room, and its values stand at the front of the output, the rest as it was
+  pub undamaged : (q : Question) (values : List ℕ) → ReadsAll q values → (before after : List ℕ) (r : Answer)
+      → length (passed values) ≤ length before → Contract q (passed (answerLine q values)) before after r
+      → StandsFor r (Values (q .n)) × (after ≡ atFront (passed values) before)
+  -- damaged, it is turned away, and the output stays as it was
+  pub damaged : (q : Question) (values : List ℕ) → ReadsAll q values → (masks : List ℕ) → Damage (answerLine q values) masks (mostBits (q .n))
+      → (before after : List ℕ) (r : Answer) → Contract q (passed (turned (answerLine q values) masks)) before after r
+      → TurnedAway (number r) × (after ≡ before)
+
+abbrev pub Demand3 : Type 0
+Demand3 = Detects ReadDone numberOf (λ words. words) (λ r reading. r ≡ reading)

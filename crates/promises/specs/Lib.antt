@@ -1,5 +1,6 @@
 pub mod ByNumber
 pub mod Rows
+pub mod WhereDue
 pub mod Certificate
 pub mod CallRows
 pub mod Demand1

@@ -13,14 +13,14 @@ use Rattle.questions.specs.Shape.{shapeOf}
 use Rattle.questions.specs.declared.question.Question.{Question}
 use Rattle.commands.specs.Command.{commandLine, CommandPut}
 use Rattle.commands.specs.declared.Issued.{Issued}
+use Rattle.readings.specs.Reading.{numberOf}
 use Rattle.readings.specs.declared.Reading.{Reading}
 use Rattle.reader.specs.Read.{ReadDone}
-use Rattle.acceptance.specs.Answer.{AnswerTo, Registers, Sendable}
+use Rattle.acceptance.specs.Answer.{AnswerTo, Registers, Sendable, readingOf, handedOut}
 use Rattle.twin.specs.Step.{ChainDone}
 use Rattle.twin.specs.declared.step.Stepped.{Stepped}
 use Rattle.twin.specs.declared.step.Stepped.the-variants.{Handed}
 use Rattle.roundtrip.specs.Between.{broughtBack, ChangedBy}
-use Rattle.promises.specs.Demand2.{Accepted, With}
 
 -- a good question put to a chain of n devices: HELLOALL, or one that names their number; and 256 registers for each device
 pub record PutTo (q : Question) (n : ℕ) (memory : List ℕ) : Type 0 where
@@ -56,4 +56,5 @@ pub record RoundTrip : Type 0 where
       → CommandPut q written line issued → length (commandLine q) ≤ length written
       → ChainDone n memory memoryLeft (take (length (commandLine q)) line) out outAfter r → length (commandLine q) ≤ length out
       → ReadDone q (take (length (commandLine q)) outAfter) before after reading → shapeOf q .values ≤ length before
-      → Accepted reading × With q (broughtBack q n memory) before after reading × ChangedBy q n memory memoryLeft
+      → (numberOf reading ≡ 0) × (reading ≡ readingOf q (broughtBack q n memory)) × (after ≡ atFront (handedOut q (broughtBack q n memory)) before)
+      × ChangedBy q n memory memoryLeft

@@ -4,10 +4,11 @@
 -- `read` and of `register_part`; and of C's `bmc_part`, which names the place of the first of the four words.
 use mathlib.Core.Path.{_≡_}
 use mathlib.Core.Bool.{true, false}
-use mathlib.Core.List.{List, []}
+use mathlib.Core.List.{List, [], _∷_}
 use Prim.Native.Nat.{ℕ, suc, _+_, _*_, _≤_}
 use lib.ListN.{length, getD, take, drop}
-use Rattle.packing.specs.Words.{lineOn}
+use Rattle.lines.specs.Line.{bytesIn}
+use Rattle.packing.specs.Words.{wordsOf, lineOn}
 use Rattle.questions.specs.Question.{covers}
 use Rattle.questions.specs.Shape.{shapeOf}
 use Rattle.questions.specs.declared.question.Question.{Question}
@@ -15,9 +16,9 @@ use Rattle.readings.specs.Reading.{valuesTaken}
 use Rattle.readings.specs.declared.Reading.{Reading}
 use Rattle.reader.specs.Read.{ReadDone}
 use Rattle.parts.specs.Part.{orderOf, partOf}
-use Rattle.acceptance.specs.Part.{partValue}
 use Rattle.c_parts.specs.PartBytes.{partIn}
-use Rattle.promises.specs.Demand1.{packedNumber, Returns}
+use Rattle.promises.specs.ByNumber.{packedNumber}
+use Rattle.promises.specs.Demand1.{Returns}
 use Rattle.promises.specs.CSide.{upperHalf}
 
 -- where the characters of a device's value start, of so many values on the line: behind the preamble and the two first bytes, which are five
@@ -25,11 +26,11 @@ use Rattle.promises.specs.CSide.{upperHalf}
 abbrev pub StartsAt : Question → (a values start : ℕ) → Type 0
 StartsAt q a values start = start + 4 * suc (orderOf q a) ≡ 5 + 4 * values
 
--- the four characters at a place of the line, and the value that they carry
+-- the four characters at a place of the line, and the value that they carry: they are two bytes, and these one word
 pub record CarriedAt (line part : List ℕ) (start value : ℕ) : Type 0 where
   pub there : part ≡ take 4 (drop start line)
   pub four : length part ≡ 4
-  pub carries : partValue part ≡ value
+  pub carries : wordsOf (bytesIn part) ≡ value ∷ []
 
 pub record SecondCall : Type 0 where
   -- values were handed out, and the device is covered: its own, as `read` left it in the output

@@ -23,6 +23,7 @@ use Rattle.roundtrip.proofs.RegistersAfter.{held-after, still-registers}
 use Rattle.jobs.specs.declared.Header.{Header}
 use Rattle.jobs.specs.Format.{Entry, asked}
 use Rattle.jobs.specs.Encoded.{Fits, Keeps}
+use Rattle.jobs.proofs.OneEntry.{fields, fits-by}
 use Rattle.rehearsal.specs.Rehearsal.{sent, withWords}
 use Rattle.rehearsal.specs.Accepted.{AcceptedFrom, FromChain}
 use Rattle.rehearsal.specs.Accepted.FromChain.{good as answered-good, bad as not-sent}
@@ -43,7 +44,7 @@ module _ (h : Header) (e : Entry) (fits : Fits e) (memory : List ℕ) (c : Chain
   n = h .n
 
   sends : Sendable q
-  sends = record { reg = fits .reg; value = fits .value }
+  sends = record { reg = fields e fits .reg; value = fields e fits .value }
 
   module _ (good : goodQuestion q ≡ true) where
     abbrev end : Chain
@@ -87,14 +88,11 @@ module _ (h : Header) (e : Entry) (fits : Fits e) (memory : List ℕ) (c : Chain
 
   -- the entry with its answer fits, and keeps the rules
   pub answered-fits : Fits (withWords e (sent n memory q .line))
-  answered-fits = record {
-    kind = fits .kind;
-    reg = fits .reg;
-    device = fits .device;
-    seed = fits .seed;
-    value = fits .value;
-    words = wide-either (goodQuestion q) refl;
-  }
+  answered-fits =
+      let own = fields e fits in
+      fits-by (withWords e (sent n memory q .line))
+      (record { kind = own .kind; reg = own .reg; device = own .device; seed = own .seed; value = own .value; words = wide-either (goodQuestion q) refl })
+      (omega (arith, answer-length q n memory, few-words q))
 
   pub answered-keeps : Keeps h e → Keeps h (withWords e (sent n memory q .line))
   answered-keeps rules = record {

@@ -2,32 +2,34 @@
 -- every other register what it held. Reads and HELLOALL change none.
 use mathlib.Core.Path.{_≡_, refl, sym, ap, ap₂, subst, _∙_}
 use mathlib.Core.Bool.{Bool, true, false, cond, _&&_, not, false≢true}
-use mathlib.Core.Logic.{⊎-elim}
+use mathlib.Core.Logic.{_⊎_, inl, inr, ⊎-elim}
 use mathlib.Core.List.{List}
 use Prim.Native.Nat.{ℕ, _+_, _*_, _/_, _%_, _≤_, _<_}
 use native.Mathlib.Nat.{eq-zero-or-pos}
 use native.Mathlib.Omega.{arith}
-use lib.Dec.{eqb}
+use lib.Dec.{eqb, ltb}
 use lib.ListN.{length, getD, drop, set, length-take, length-drop, List·getD-eq-default}
 use lib.Seq.{getD-set-same, getD-set-other, getD-take, getD-drop}
-use borrow.Author.Tests.{eqb-true, eq-eqb, ne-eqb}
+use borrow.Author.Tests.{eqb-true, eq-eqb, ne-eqb, lt-ltb}
 use Rattle.ground.proofs.Test.{below-or-not}
-use Rattle.questions.specs.Question.{byForm, goodQuestion, covers}
+use Rattle.questions.specs.Question.{byForm, goodQuestion, coversAt, covers}
 use Rattle.commands.specs.Command.{commandLine}
 use Rattle.questions.specs.declared.question.Question.{Question}
-use Rattle.questions.proofs.ByKind.{of-hello, of-write, of-read}
+use Rattle.questions.proofs.ByKind.{of-hello, of-write, of-read, each-kind}
+use Rattle.questions.proofs.Good.{good-kind}
 use Rattle.acceptance.specs.Answer.{Registers, Sendable}
 use Rattle.passage.specs.Pass.{storeOf, changeAsked, changed}
 use Rattle.passage.specs.declared.pass.Change.{Change}
 use Rattle.passage.specs.declared.pass.Change.the-variants.{Nothing, Store}
 use Rattle.twin.specs.Step.{registersOf, chainWith, hops}
-use Rattle.roundtrip.specs.Between.{held, writeReaches, reaches, ChangedBy}
+use Rattle.roundtrip.specs.Between.{held, reaches, ChangedBy, For}
 use Rattle.twin.proofs.Stepping.{hops-memory}
 use Rattle.roundtrip.proofs.Values.{held-lt}
+use Rattle.roundtrip.proofs.PutInSoFar.{covers-at}
 use Rattle.roundtrip.proofs.RoundTrip.{registers-after}
 
 -- a register file of 256
-file-length : (memory : List ℕ) (n k : ℕ) → length memory ≡ 256 * n → k < n → length (registersOf memory k) ≡ 256
+pub file-length : (memory : List ℕ) (n k : ℕ) → length memory ≡ 256 * n → k < n → length (registersOf memory k) ≡ 256
 file-length memory n k size h = omega (arith, length-take 256 (drop (256 * k) memory), length-drop (256 * k) memory)
 
 -- what a question asks of the registers, by form
@@ -70,6 +72,9 @@ module _ (q : Question) (registers : List ℕ) (size : length registers ≡ 256)
           other-kept z zero-reg (λ same. false≢true (sym other ∙ eq-eqb r (q .reg) same))
           ∙ sym (ap (λ (t : Bool). cond (t && not (eqb r 0x00)) (q .value) (getD registers r 0)) other)
 
+  abbrev writeReaches : (k : ℕ) → Bool
+  writeReaches k = covers q k && eqb r (q .reg) && not (eqb r 0x00)
+
   -- any question, to a device that it covers or not
   by-change : (k : ℕ) → after (cond (covers q k) (changeAsked q) Nothing) ≡ cond (reaches q k r) (q .value) (getD registers r 0)
   unfolding reaches
@@ -79,7 +84,7 @@ module _ (q : Question) (registers : List ℕ) (size : length registers ≡ 256)
       (λ (e : q .kind ≡ 0). nothing (others-ask-nothing q (λ x. absurd (omega arith)) (λ x. absurd (omega arith))) (of-hello (q .kind) _ _ _ e))
       (λ (some : 1 ≤ q .kind).
       ap (λ (c : Change). after (cond (covers q k) c Nothing)) (write-asks q some (omega arith)) ∙ either (covers q k)
-      ∙ sym (ap (λ (t : Bool). cond t (q .value) (getD registers r 0)) (of-write (q .kind) false (writeReaches q k r) false some (omega arith))))
+      ∙ sym (ap (λ (t : Bool). cond t (q .value) (getD registers r 0)) (of-write (q .kind) false (writeReaches k) false some (omega arith))))
       (eq-zero-or-pos (q .kind)))
       (λ (reads : 3 ≤ q .kind). nothing (others-ask-nothing q (λ x. absurd (omega arith)) (λ x. absurd (omega arith))) (of-read (q .kind) _ _ _ reads))
       (below-or-not (q .kind) 3)
@@ -88,8 +93,8 @@ module _ (q : Question) (registers : List ℕ) (size : length registers ≡ 256)
       same-either true = refl
       same-either false = refl
 
-      nothing : changeAsked q ≡ Nothing → byForm (q .kind) false (writeReaches q k r) false ≡ false
-          → after (cond (covers q k) (changeAsked q) Nothing) ≡ cond (byForm (q .kind) false (writeReaches q k r) false) (q .value) (getD registers r 0)
+      nothing : changeAsked q ≡ Nothing → byForm (q .kind) false (writeReaches k) false ≡ false
+          → after (cond (covers q k) (changeAsked q) Nothing) ≡ cond (byForm (q .kind) false (writeReaches k) false) (q .value) (getD registers r 0)
       nothing asks none =
           ap (λ (c : Change). after (cond (covers q k) c Nothing)) asks ∙ same-either (covers q k)
           ∙ sym (ap (λ (t : Bool). cond t (q .value) (getD registers r 0)) none)
@@ -97,6 +102,34 @@ module _ (q : Question) (registers : List ℕ) (size : length registers ≡ 256)
       either : (t : Bool) → after (cond t (storeOf q) Nothing) ≡ cond (t && eqb r (q .reg) && not (eqb r 0x00)) (q .value) (getD registers r 0)
       either true = stored
       either false = refl
+
+  -- and one that the device acts on
+  pub by-rule : (n k : ℕ) → For q n k → after (changeAsked q) ≡ cond (reaches q k r) (q .value) (getD registers r 0)
+  by-rule n k put =
+      ap after (each-kind Asked hello (λ e. covered (all 1 e (omega arith) refl)) (λ e. covered (one 2 e (inl e) refl)) (λ e. covered (all 3 e (omega arith) refl))
+      (λ e. covered (one 4 e (inr e) refl)) (q .kind) (good-kind q (put .good)) refl)
+      ∙ by-change k
+    where
+      Asked : ℕ → Type 0
+      Asked x = q .kind ≡ x → changeAsked q ≡ cond (covers q k) (changeAsked q) Nothing
+
+      covered : covers q k ≡ true → changeAsked q ≡ cond (covers q k) (changeAsked q) Nothing
+      covered e = sym (ap (λ (t : Bool). cond t (changeAsked q) Nothing) e)
+
+      all : (x : ℕ) → q .kind ≡ x → 1 ≤ x → coversAt x q k ≡ ltb k (q .n) → covers q k ≡ true
+      all x e some is = covers-at q k x e ∙ is ∙ lt-ltb k (q .n) (omega (arith, put .chain (omega (arith, e)), put .within))
+
+      one : (x : ℕ) → q .kind ≡ x → (q .kind ≡ 2) ⊎ (q .kind ≡ 4) → coversAt x q k ≡ eqb k (q .device) → covers q k ≡ true
+      one x e named is = covers-at q k x e ∙ is ∙ eq-eqb k (q .device) (sym (put .to named))
+
+      either : (t : Bool) → Nothing ≡ cond t Nothing Nothing
+      either true = refl
+      either false = refl
+
+      hello : q .kind ≡ 0 → changeAsked q ≡ cond (covers q k) (changeAsked q) Nothing
+      hello e =
+          let none = others-ask-nothing q (λ x. absurd (omega arith)) (λ x. absurd (omega arith)) in
+          none ∙ either (covers q k) ∙ sym (ap (λ (c : Change). cond (covers q k) c Nothing) none)
 
 module _ (q : Question) (good : goodQuestion q ≡ true) (sends : Sendable q) (n : ℕ) (chain : 1 ≤ q .kind → q .n ≡ n) (least : 1 ≤ n) (most : n ≤ 32)
     (memory : List ℕ) (words : Registers memory) (size : length memory ≡ 256 * n) where
