@@ -18,7 +18,7 @@ ghost use lib.Seq.{sets};
 ghost use Rattle.lines.specs.Line.{charactersOf};
 ghost use Rattle.writing.specs.PutLine.{LinePut};
 ghost use Rattle.questions.specs.Bytes.{fillPairs};
-ghost use Rattle.commands.specs.Command.{CommandPut, issuedNumber, issuedAs};
+ghost use Rattle.commands.specs.Command.{CommandPut, issuedAs};
 ghost use Rattle.commands.specs.Head.{withAlive, headOf, writeHead, readHead};
 
 // How many words the command has, or which row turned the call away.
@@ -102,17 +102,6 @@ fn with_alive(q: Question, places: usize) -> usize
         return places + 1;
     }
     places
-}
-
-// Document 01's number of an answer: 0 where the command was written.
-pub fn issued_number(issued: Issued) -> u8
-    ensures { λ r. ⌜ r ≡ issuedNumber issued ⌝ }
-{
-    match issued {
-        Issued::Words(_) => 0,
-        Issued::Question => 1,
-        Issued::Room => 2,
-    }
 }
 
 fn as_issued(put: Put) -> Issued

@@ -10,7 +10,7 @@ use questions::question::READALL;
 use reader::read::read;
 use readings::Reading;
 use twin::step::run_chain;
-use twin::step::stepped_number;
+use twin_numbers::stepped_number;
 ghost use mathlib.Core.Path.{_≡_};
 ghost use lib.ListN.{length};
 

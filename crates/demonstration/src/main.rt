@@ -12,8 +12,8 @@ use questions::question::WRITEALL;
 use questions::question::WRITEDEVICE;
 use reader::read::read;
 use registers::power_on;
-use registers::powered_number;
 use show::text;
+use twin_numbers::powered_number;
 
 fn main() {
     let mut memory = registers();

@@ -13,7 +13,7 @@ use heading::is_marked;
 use questions::question::Question;
 ghost use mathlib.Core.Path.{_≡_};
 ghost use Rattle.jobs.specs.Format.{headSize, fieldSize};
-ghost use Rattle.jobs.specs.Check.{openedOf, openedNumber, nextOf, nextNumber};
+ghost use Rattle.jobs.specs.Check.{openedOf, nextOf};
 
 // How many devices the chain has, and whether the alive byte is on.
 pub struct Header {
@@ -80,16 +80,6 @@ pub fn open(file: &[u8]) -> Opened
     Opened::Job(header)
 }
 
-// Document 01's number of an answer: 0 for a job file.
-pub fn opened_number(opened: Opened) -> u8
-    ensures { λ r. ⌜ r ≡ openedNumber opened ⌝ }
-{
-    match opened {
-        Opened::Job(_) => 0,
-        Opened::File => 14,
-    }
-}
-
 // Where the first entry stands: behind the header.
 pub fn first() -> Cursor
     ensures { λ r. ⌜ r .at ≡ headSize ⌝ }
@@ -116,15 +106,4 @@ pub fn next_entry(header: Header, file: &[u8], cursor: Cursor) -> Next
         return Next::File;
     }
     entry_known_at(header, file, at)
-}
-
-// Document 01's number of an answer: the end of the entries is no refusal.
-pub fn next_number(next: Next) -> u8
-    ensures { λ r. ⌜ r ≡ nextNumber next ⌝ }
-{
-    match next {
-        Next::Entry(_, _) => 0,
-        Next::End => 0,
-        Next::File => 14,
-    }
 }
