@@ -7,7 +7,7 @@ mod entry;
 use answer::answer_all;
 use count::answered_length;
 use jobs::Opened;
-use jobs::open;
+use opening::open;
 ghost use mathlib.Core.Path.{_≡_};
 ghost use Rattle.rehearsal.specs.Rehearsal.{RehearsalDone};
 

@@ -1,5 +1,4 @@
 // The fields that each kind of question uses; the others are zero (document 01, "Job file and certificate").
-use crate::Uses;
 use questions::question::HELLOALL;
 use questions::question::Question;
 use questions::question::READALL;
@@ -8,9 +7,18 @@ use questions::question::WRITEDEVICE;
 ghost use mathlib.Core.Path.{_≡_};
 ghost use mathlib.Core.Bool.{_||_};
 ghost use lib.Dec.{eqb};
-ghost use Rattle.jobs.specs.Rules.{usesOf, unusedAreZero};
+ghost use Rattle.used_fields.specs.Used.{usesOf, unusedAreZero};
 
-pub(crate) fn are_unused_zero(q: Question) -> bool
+// Which fields a question uses.
+pub struct Uses {
+    pub register: bool,
+    pub value: bool,
+    pub device: bool,
+    pub seed: bool,
+}
+
+// Whether every field that its kind does not use is 0.
+pub fn are_unused_zero(q: Question) -> bool
     ensures { λ r. ⌜ r ≡ unusedAreZero q ⌝ }
 {
     let uses = uses_of(q);

@@ -5,13 +5,13 @@ use native.Mathlib.Omega.{arith}
 use lib.ListN.{length, drop, length-drop}
 use borrow.Author.Tests.{not-true, not-false}
 use Rattle.ground.proofs.Lists.{part-to-end}
 use Rattle.jobs.specs.Format.{headSize}
 use Rattle.jobs.specs.Check.{wordsIn, sizeIn, goodEntry, goodEntries}
 use Rattle.jobs.proofs.Sizes.{field-bounds}
 use Rattle.jobs.proofs.GoodEntry.{good}
 use Rattle.jobs.proofs.Entries.{good-here, bad-here, no-more-good}
-use Rattle.jobs.proofs.entry.are_good_entries.Statement.{statement}
-use Rattle.jobs.proofs.entry.are_good_entries.Tie as tie
+use Rattle.opening.proofs.are_good_entries.Statement.{statement}
+use Rattle.opening.proofs.are_good_entries.Tie as tie
 
 abbrev Inv-loop : tie.InvT-loop
 Inv-loop header file at₀ at = (at ≤ length file) × (goodEntries header (drop at file) ≡ goodEntries header (drop headSize file))
@@ -55,12 +55,7 @@ part-size-in-end : tie.Need-part-size-in-end Inv-loop μ-loop
 part-size-in-end c = omega arith
 
 size-in-requires : tie.Need-size-in-requires Inv-loop μ-loop
-size-in-requires c κs =
-    let a = c .before .before .before .before .before .before .before .before .args in
-    let file = a .file .now in
-    let at = c .before .before .before .before .before .loop .at in
-    let is = good (a .header) (drop at file) (sym (c .before .before .is-good-entry .ensures ∙ ap (goodEntry (a .header)) (part-to-end file at)) ∙ not-false _ (c .before .if1 .left)) in
-    (omega (arith, ap length (part-to-end file at), is .whole, field-bounds .0), omega (arith, ap wordsIn (part-to-end file at), is .words))
+size-in-requires c κs = tt
 
 add-at : tie.Need-add-at Inv-loop μ-loop
 add-at c =

@@ -3,11 +3,11 @@ use mathlib.Core.Path.{sym, ap, _∙_}
 use mathlib.Core.Bool.{_||_}
 use lib.Dec.{eqb}
 use borrow.Author.Tests.{not-true, not-false}
-use Rattle.jobs.specs.declared.Uses.{Uses}
-use Rattle.jobs.specs.Rules.{unusedAreZero}
+use Rattle.used_fields.specs.declared.Uses.{Uses}
+use Rattle.used_fields.specs.Used.{unusedAreZero}
 use borrow.Author.Needs.{needs}
-use Rattle.jobs.proofs.fields.are_unused_zero.Statement.{statement}
-use Rattle.jobs.proofs.fields.are_unused_zero.Tie as tie
+use Rattle.used_fields.proofs.are_unused_zero.Statement.{statement}
+use Rattle.used_fields.proofs.are_unused_zero.Tie as tie
 
 uses-of-requires : tie.Need-uses-of-requires
 uses-of-requires c κs = search needs

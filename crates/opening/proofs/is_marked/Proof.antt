@@ -1,9 +1,9 @@
 -- `is_marked` meets its contract: at each `return` the bytes looked at so far decide.
 use borrow.Author.Tests.{eq-eqb, ne-eqb}
 use Rattle.jobs.specs.Check.{marked}
 use borrow.Author.Needs.{needs}
-use Rattle.jobs.proofs.heading.is_marked.Statement.{statement}
-use Rattle.jobs.proofs.heading.is_marked.Tie as tie
+use Rattle.opening.proofs.is_marked.Statement.{statement}
+use Rattle.opening.proofs.is_marked.Tie as tie
 
 shared-slice-read-if1 : tie.Need-shared-slice-read-if1
 shared-slice-read-if1 c = search needs

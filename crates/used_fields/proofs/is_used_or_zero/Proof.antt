@@ -3,8 +3,8 @@ use mathlib.Core.Path.{sym, ap}
 use mathlib.Core.Bool.{Bool, _||_}
 use lib.Dec.{eqb}
 use borrow.Author.Needs.{needs}
-use Rattle.jobs.proofs.fields.is_used_or_zero.Statement.{statement}
-use Rattle.jobs.proofs.fields.is_used_or_zero.Tie as tie
+use Rattle.used_fields.proofs.is_used_or_zero.Statement.{statement}
+use Rattle.used_fields.proofs.is_used_or_zero.Tie as tie
 
 returns : tie.Need-returns
 returns c = search needs

@@ -1,8 +1,8 @@
 -- `is_good_header` meets its contract: at each `return` the tests before it decide the definition.
 use borrow.Author.Tests.{le-leb, lt-leb}
 use Rattle.jobs.specs.Rules.{goodHeader}
-use Rattle.jobs.proofs.heading.is_good_header.Statement.{statement}
-use Rattle.jobs.proofs.heading.is_good_header.Tie as tie
+use Rattle.opening.proofs.is_good_header.Statement.{statement}
+use Rattle.opening.proofs.is_good_header.Tie as tie
 
 returns : tie.Need-returns
 unfolding goodHeader

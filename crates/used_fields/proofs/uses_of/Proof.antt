@@ -3,9 +3,9 @@ use mathlib.Core.Path.{sym, ap}
 use Prim.Native.Nat.{ℕ}
 use lib.Dec.{eqb}
 use Rattle.questions.proofs.ByKind.{last-kind}
-use Rattle.jobs.specs.Rules.{usesAt, usesOf}
-use Rattle.jobs.proofs.fields.uses_of.Statement.{statement}
-use Rattle.jobs.proofs.fields.uses_of.Tie as tie
+use Rattle.used_fields.specs.Used.{usesAt, usesOf}
+use Rattle.used_fields.proofs.uses_of.Statement.{statement}
+use Rattle.used_fields.proofs.uses_of.Tie as tie
 
 returns : tie.Need-returns
 unfolding usesOf

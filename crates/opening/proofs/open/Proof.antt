@@ -3,12 +3,12 @@ use mathlib.Core.Path.{sym, _∙_}
 use native.Mathlib.Omega.{arith}
 use lib.ListN.{length}
 use borrow.Author.Tests.{le-leb, lt-leb, not-true, not-false}
 use Rattle.jobs.specs.Format.{headSize}
 use Rattle.jobs.specs.Check.{goodFile, openedOf}
 use Rattle.jobs.proofs.Sizes.{head-bounds}
 use borrow.Author.Needs.{needs}
-use Rattle.jobs.proofs.open.Statement.{statement}
-use Rattle.jobs.proofs.open.Tie as tie
+use Rattle.opening.proofs.open.Statement.{statement}
+use Rattle.opening.proofs.open.Tie as tie
 
 returns : tie.Need-returns
 unfolding openedOf goodFile
