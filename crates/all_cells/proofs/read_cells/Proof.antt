@@ -6,12 +6,12 @@ use native.Mathlib.Numerals.{add-one}
 use native.Mathlib.Omega.{arith}
 use lib.ListN.{length, take, drop, set, getD, length-set}
 use lib.Seq.{take-suc-set, take-all, drop-cons, drop-length}
 use Rattle.cells.specs.Cell.{cellOf, cellsFrom, cellsOf}
 use Rattle.cells.specs.declared.Cell.{Cell}
 use Rattle.cells.specs.declared.Range.{Range}
 use Rattle.cells.specs.declared.Register.{Register}
-use Rattle.cells.proofs.read_cells.Statement.{statement}
-use Rattle.cells.proofs.read_cells.Tie as tie
+use Rattle.all_cells.proofs.read_cells.Statement.{statement}
+use Rattle.all_cells.proofs.read_cells.Tie as tie
 
 -- what is to come after i cells
 abbrev toCome : Range → ℕ → List Register → ℕ → List Cell

@@ -8,7 +8,7 @@ use Rattle.questions.specs.Question.{byForm}
 use Rattle.questions.specs.Shape.{shapeOf}
 use Rattle.questions.specs.Bytes.{lowHigh}
 use Rattle.questions.specs.declared.question.Question.{Question}
-use Rattle.commands.specs.declared.Head.{Head}
+use Rattle.heads.specs.declared.Head.{Head}
 
 -- so many bytes, and one more where the bench has the alive byte on
 abbrev pub withAlive : Question → (bytes : ℕ) → ℕ

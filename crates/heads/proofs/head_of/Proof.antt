@@ -2,10 +2,10 @@
 use mathlib.Core.Path.{_≡_, _∙_}
 use Prim.Native.Nat.{ℕ, _≤_}
 use native.Mathlib.Omega.{arith}
-use Rattle.commands.proofs.Taken.{hello-head, write-head, read-head}
+use Rattle.heads.proofs.Taken.{hello-head, write-head, read-head}
 use borrow.Author.Needs.{needs}
-use Rattle.commands.proofs.head_of.Statement.{statement}
-use Rattle.commands.proofs.head_of.Tie as tie
+use Rattle.heads.proofs.head_of.Statement.{statement}
+use Rattle.heads.proofs.head_of.Tie as tie
 
 pos-of : (k : ℕ) → (k ≡ 0 → ⊥) → 1 ≤ k
 pos-of k h = omega arith

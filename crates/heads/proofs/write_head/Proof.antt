@@ -4,8 +4,8 @@ use mathlib.Core.List.{[], _∷_}
 use Prim.Native.Nat.{ℕ, _/_, _%_}
 use Rattle.pec.proofs.Byte.{four-steps}
 use borrow.Author.Needs.{needs}
-use Rattle.commands.proofs.write_head.Statement.{statement}
-use Rattle.commands.proofs.write_head.Tie as tie
+use Rattle.heads.proofs.write_head.Statement.{statement}
+use Rattle.heads.proofs.write_head.Tie as tie
 
 cast-low : tie.Need-cast-low
 cast-low c = search needs

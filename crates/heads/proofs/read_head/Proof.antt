@@ -4,8 +4,8 @@ use mathlib.Core.List.{[], _∷_}
 use Prim.Native.Nat.{ℕ}
 use Rattle.pec.proofs.Byte.{three-steps}
 use borrow.Author.Needs.{needs}
-use Rattle.commands.proofs.read_head.Statement.{statement}
-use Rattle.commands.proofs.read_head.Tie as tie
+use Rattle.heads.proofs.read_head.Statement.{statement}
+use Rattle.heads.proofs.read_head.Tie as tie
 
 step-requires : tie.Need-step-requires
 step-requires c κs = search needs

@@ -1,8 +1,8 @@
 -- `with_alive` meets its contract: the test decides.
 use borrow.Author.Tests.{eq-eqb, ne-eqb}
 use borrow.Author.Needs.{needs}
-use Rattle.commands.proofs.with_alive.Statement.{statement}
-use Rattle.commands.proofs.with_alive.Tie as tie
+use Rattle.heads.proofs.with_alive.Statement.{statement}
+use Rattle.heads.proofs.with_alive.Tie as tie
 
 add-result : tie.Need-add-result
 add-result c = search needs

@@ -18,8 +18,8 @@ use Rattle.questions.specs.declared.question.Shape.{Shape}
 use Rattle.questions.proofs.ByKind.{of-hello, of-write, of-read}
 use Rattle.questions.proofs.Good.{good-first, hello-shape, write-shape}
 use Rattle.questions.proofs.Bytes.{hello-command, write-command, read-command}
-use Rattle.commands.specs.Head.{withAlive, helloHead, writeHead, readHead, headOf}
-use Rattle.commands.specs.declared.Head.{Head}
+use Rattle.heads.specs.Head.{withAlive, helloHead, writeHead, readHead, headOf}
+use Rattle.heads.specs.declared.Head.{Head}
 
 -- ---- by form
 
