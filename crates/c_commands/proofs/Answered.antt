@@ -20,7 +20,7 @@ use Rattle.questions.specs.declared.question.Shape.{Shape}
 use Rattle.questions.proofs.Bytes.{length-pairs}
 use Rattle.commands.specs.Command.{commandLine, issuedOf, issuedNumber}
 use Rattle.heads.specs.Head.{headOf}
-use Rattle.commands.specs.declared.Head.{Head}
+use Rattle.heads.specs.declared.Head.{Head}
 use Rattle.commands.specs.declared.Issued.{Issued}
 use Rattle.commands.specs.declared.Issued.the-variants as issued
 use Rattle.heads.proofs.Taken.{head-taken}
