@@ -3,14 +3,5 @@ use borrow.Author.Needs.{needs}
 use Rattle.bmc.proofs.bmc_pec.Statement.{statement}
 use Rattle.bmc.proofs.bmc_pec.Tie as tie
 
-pec-requires : tie.Need-pec-requires
-pec-requires c κs = search needs
-
-cast-result : tie.Need-cast-result
-cast-result c = search needs
-
-returns : tie.Need-returns
-returns c = search needs
-
 pub bmc-pec-spec : {M : Type 1} → statement M
-bmc-pec-spec = tie.close (tie.spec pec-requires cast-result returns)
+bmc-pec-spec = tie.close (tie.spec (λ c κs. search needs) (λ c. search needs) (λ c. search needs))
