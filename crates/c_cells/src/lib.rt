@@ -1,11 +1,11 @@
 // Voltages for the C side (document 01, "Cells" and "The C side"): a cell's answer packed into one number, and its voltage, where one was
 // measured, into two lent numbers; and so for the twelve cells of one measurement.
+use all_cells::read_cells;
+use cell_numbers::refusal_number;
 use cells::Cell;
 use cells::Range;
 use cells::Register;
 use cells::read_cell;
-use cells::read_cells;
-use cells::refusal_number;
 use packing::join;
 ghost use mathlib.Core.Path.{_≡_};
 ghost use Prim.Native.Nat.{_≤_};

@@ -19,11 +19,11 @@ use Rattle.questions.specs.declared.question.Question.{Question}
 use Rattle.questions.specs.declared.question.Shape.{Shape}
 use Rattle.questions.proofs.Bytes.{length-pairs}
 use Rattle.commands.specs.Command.{commandLine, issuedOf, issuedNumber}
-use Rattle.commands.specs.Head.{headOf}
-use Rattle.commands.specs.declared.Head.{Head}
+use Rattle.heads.specs.Head.{headOf}
+use Rattle.heads.specs.declared.Head.{Head}
 use Rattle.commands.specs.declared.Issued.{Issued}
 use Rattle.commands.specs.declared.Issued.the-variants as issued
-use Rattle.commands.proofs.Taken.{head-taken}
+use Rattle.heads.proofs.Taken.{head-taken}
 use Rattle.commands.proofs.Issuing.{issued-bad, issued-good, issued-short}
 use Rattle.acceptance.proofs.Lengths.{command-words}
 use Rattle.c_commands.specs.CommandBytes.{packedIssued, laid, CommandBytesDone}

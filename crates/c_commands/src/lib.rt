@@ -2,7 +2,7 @@
 // answer is packed into one number. The bytes are laid straight into the lent ones, with no line of words in between.
 use characters::PREAMBLE;
 use characters::STOP;
-use commands::head_of;
+use heads::head_of;
 use questions::question::Question;
 use questions::question::is_good;
 use questions::question::shape_of;

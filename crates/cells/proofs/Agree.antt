@@ -2,18 +2,6 @@
 use mathlib.Core.Path.{sym, _∙_}
 use Rattle.ground.specs.Agree.{Settled}
 use Rattle.cells.proofs.read_cell.Reads as read-cell
-use Rattle.cells.proofs.read_cells.Reads as read-cells
-use Rattle.cells.proofs.refusal_number.Reads as refusal-number
-use Rattle.cells.proofs.number_of.Reads as number-of
 
 pub read-cell-settled : Settled read-cell.Post
 read-cell-settled l given r r′ left left′ p q = p ∙ sym q
-
-pub read-cells-settled : Settled read-cells.Post
-read-cells-settled l given r r′ left left′ p q = p ∙ sym q
-
-pub refusal-number-settled : Settled refusal-number.Post
-refusal-number-settled l given r r′ left left′ p q = p ∙ sym q
-
-pub number-of-settled : Settled number-of.Post
-number-of-settled l given r r′ left left′ p q = p ∙ sym q

@@ -3,7 +3,7 @@ ghost use mathlib.Core.Path.{_≡_};
 ghost use Prim.Native.Nat.{_<_, _≤_};
 ghost use lib.IntN.{natAbs};
 ghost use Rattle.cells.specs.Voltage.{stepsOf, microvoltsOf, voltsOf, voltageOf};
-ghost use Rattle.cells.specs.Cell.{enabled, cellOf, cellsOf, cellRefusalNumber, cellNumber};
+ghost use Rattle.cells.specs.Cell.{enabled, cellOf};
 
 // A register's sixteen bits, and a measurement's fourteen: not to be mistaken for one another.
 pub struct Register(pub u16);
@@ -104,36 +104,4 @@ pub fn read_cell(range: Range, mask: u16, c: u8, register: Register) -> Cell
         return Cell::Refused(CellRefusal::LowBits);
     }
     Cell::Measured(voltage_of(range, Code(word / 4)))
-}
-
-// The twelve cells of a device, the first register being cell 1's.
-pub fn read_cells(range: Range, mask: u16, registers: [Register; 12]) -> [Cell; 12]
-    ensures { λ r. ⌜ r ≡ cellsOf range mask registers ⌝ }
-{
-    let mut cells = [Cell::NotMeasured; 12];
-    for i in 0..12 {
-        cells[i] = read_cell(range, mask, i as u8 + 1, registers[i]);
-    }
-    cells
-}
-
-// The paper's number of a refusal.
-pub fn refusal_number(why: CellRefusal) -> u8
-    ensures { λ r. ⌜ r ≡ cellRefusalNumber why ⌝ }
-{
-    match why {
-        CellRefusal::Channel => 12,
-        CellRefusal::LowBits => 13,
-    }
-}
-
-// The paper's number of an answer, 0 where nothing is turned away.
-pub fn number_of(cell: Cell) -> u8
-    ensures { λ r. ⌜ r ≡ cellNumber cell ⌝ }
-{
-    match cell {
-        Cell::Measured(_) => 0,
-        Cell::NotMeasured => 0,
-        Cell::Refused(why) => refusal_number(why),
-    }
 }

@@ -4,13 +4,9 @@ use mathlib.Core.Path.{sym, _∙_}
 use denote.Ref.{now}
 use Rattle.ground.specs.Agree.{Settled, SettledIn}
 use Rattle.certificate.proofs.certify.Reads as certify
-use Rattle.certificate.proofs.certified_number.Reads as certified-number
 
 pub certify-settled : Settled certify.Post
 certify-settled l given r r′ left left′ p q = p .says ∙ sym (q .says)
 
 pub certify-settled-text : SettledIn (λ l left. now (left .1 .0)) certify.Post
 certify-settled-text l given r r′ left left′ p q = p .leaves ∙ sym (q .leaves)
-
-pub certified-number-settled : Settled certified-number.Post
-certified-number-settled l given r r′ left left′ p q = p ∙ sym q

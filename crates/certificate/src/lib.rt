@@ -5,8 +5,8 @@ mod entries;
 use entries::tell;
 use jobs::Header;
 use jobs::Opened;
-use jobs::open;
 use letters::Standing;
+use opening::open;
 use printing::MOST_ENTRIES;
 use printing::Printed;
 use printing::print;
@@ -15,7 +15,7 @@ ghost use mathlib.Core.Bool.{true};
 ghost use lib.ListN.{length};
 ghost use Rattle.jobs.specs.Check.{goodFile, headerIn};
 ghost use Rattle.printing.specs.Print.{mostEntries, PrintDone};
-ghost use Rattle.certificate.specs.Certificate.{numbersOf, heardIn, standingOf, CertificateDone, certifiedNumber};
+ghost use Rattle.certificate.specs.Certificate.{numbersOf, heardIn, standingOf, CertificateDone};
 ghost use Rattle.certificate.specs.Telling.{certifiedAs};
 
 // How many bytes the certificate has; or which row turned the call away.
@@ -44,17 +44,6 @@ pub fn certify(file: &[u8], text: &mut [u8]) -> Certified
         return Certified::File;
     };
     as_certified(print_told(header, file, text))
-}
-
-// Document 01's number of an answer: 0 where the certificate was written.
-pub fn certified_number(certified: Certified) -> u8
-    ensures { λ r. ⌜ r ≡ certifiedNumber certified ⌝ }
-{
-    match certified {
-        Certified::Bytes(_) => 0,
-        Certified::File => 14,
-        Certified::Room => 2,
-    }
 }
 
 // No job file has too many entries to print.

@@ -3,15 +3,7 @@
 use mathlib.Core.Path.{sym, _∙_}
 use denote.Ref.{now}
 use Rattle.ground.specs.Agree.{Settled, SettledIn}
-use Rattle.commands.proofs.head_of.Reads as head-of
-use Rattle.commands.proofs.issued_number.Reads as issued-number
 use Rattle.commands.proofs.write_command.Reads as write-command
-
-pub head-of-settled : Settled head-of.Post
-head-of-settled l given r r′ left left′ p q = p ∙ sym q
-
-pub issued-number-settled : Settled issued-number.Post
-issued-number-settled l given r r′ left left′ p q = p ∙ sym q
 
 pub write-command-settled : Settled write-command.Post
 write-command-settled l given r r′ left left′ p q = p .says ∙ sym (q .says)

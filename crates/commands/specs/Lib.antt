@@ -1,2 +1,1 @@
 pub mod Command
-pub mod Head

@@ -2,10 +2,8 @@
 // away").
 use characters::STOP;
 use characters::word_of;
-use pec::step;
-use questions::question::HELLOALL;
+use heads::head_of;
 use questions::question::Question;
-use questions::question::WRITEDEVICE;
 use questions::question::is_good;
 use questions::question::shape_of;
 use writing::Put;
@@ -18,20 +16,13 @@ ghost use lib.Seq.{sets};
 ghost use Rattle.lines.specs.Line.{charactersOf};
 ghost use Rattle.writing.specs.PutLine.{LinePut};
 ghost use Rattle.questions.specs.Bytes.{fillPairs};
-ghost use Rattle.commands.specs.Command.{CommandPut, issuedNumber, issuedAs};
-ghost use Rattle.commands.specs.Head.{withAlive, headOf, writeHead, readHead};
+ghost use Rattle.commands.specs.Command.{CommandPut, issuedAs};
 
 // How many words the command has, or which row turned the call away.
 pub enum Issued {
     Words(usize),
     Question,
     Room,
-}
-
-// The bytes of a command before its fill pairs, at the front of six places, and how many they are.
-pub struct Head {
-    pub bytes: [u8; 6],
-    pub count: usize,
 }
 
 // The command's line at the front of the lent words, the rest as it was; turned away, nothing is written.
@@ -46,73 +37,6 @@ pub fn write_command(q: Question, out: &mut [u16]) -> Issued
     let count = head.count;
     let pairs = shape_of(q).values;
     as_issued(put_filled(&bytes[..count], pairs, out))
-}
-
-// What stands before the fill pairs, of any question; the alive byte's place is counted where the bench has it on.
-pub fn head_of(q: Question) -> Head
-    ensures { λ r. ⌜ r ≡ headOf q ⌝ }
-{
-    let s = shape_of(q);
-    let first = (s.first % 256) as u8;
-    let kind = q.kind;
-    if kind == HELLOALL {
-        return Head {
-            bytes: [first, 0, 0, 0, 0, 0],
-            count: 3,
-        };
-    }
-    if kind <= WRITEDEVICE {
-        return write_head(first, q);
-    }
-    read_head(first, q)
-}
-
-fn write_head(first: u8, q: Question) -> Head
-    ensures { λ r. ⌜ r ≡ writeHead first q ⌝ }
-{
-    let reg = q.reg;
-    let low = (q.value % 256) as u8;
-    let high = (q.value / 256) as u8;
-    let check = step(step(step(step(0, first), reg), low), high);
-    let seed = q.seed;
-    Head {
-        bytes: [first, reg, low, high, check, seed],
-        count: with_alive(q, 5),
-    }
-}
-
-fn read_head(first: u8, q: Question) -> Head
-    ensures { λ r. ⌜ r ≡ readHead first q ⌝ }
-{
-    let reg = q.reg;
-    let check = step(step(step(0, first), reg), 0);
-    let seed = q.seed;
-    Head {
-        bytes: [first, reg, 0, check, seed, 0],
-        count: with_alive(q, 4),
-    }
-}
-
-// So many places, and the alive byte's where the bench has it on.
-fn with_alive(q: Question, places: usize) -> usize
-    requires { ⌜ places ≤ 5 ⌝ }
-    ensures { λ r. ⌜ r ≡ withAlive q places ⌝ }
-{
-    if q.alive == 1 {
-        return places + 1;
-    }
-    places
-}
-
-// Document 01's number of an answer: 0 where the command was written.
-pub fn issued_number(issued: Issued) -> u8
-    ensures { λ r. ⌜ r ≡ issuedNumber issued ⌝ }
-{
-    match issued {
-        Issued::Words(_) => 0,
-        Issued::Question => 1,
-        Issued::Room => 2,
-    }
 }
 
 fn as_issued(put: Put) -> Issued

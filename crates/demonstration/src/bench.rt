@@ -9,8 +9,8 @@ use questions::question::Question;
 use questions::question::READALL;
 use reader::read::read;
 use readings::Reading;
+use twin::step::Stepped;
 use twin::step::run_chain;
-use twin::step::stepped_number;
 ghost use mathlib.Core.Path.{_≡_};
 ghost use lib.ListN.{length};
 
@@ -77,12 +77,20 @@ fn turn_over(line: &mut [u16], bits: u16) {
     }
 }
 
+fn is_turned_away(stepped: Stepped) -> bool {
+    match stepped {
+        Stepped::Handed => false,
+        Stepped::Twin => true,
+        Stepped::Room => true,
+    }
+}
+
 // The chain's answer to a command.
 fn through_the_chain(q: Question, line: &[u16], memory: &mut [u16]) {
     let mut back = line_of_words();
     let stepped = run_chain(3, memory, line, &mut back);
     let words = line.len();
-    if stepped_number(stepped) != 0 {
+    if is_turned_away(stepped) {
         text(b"  the chain turns the call away\n");
         return;
     }

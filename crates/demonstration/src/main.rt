@@ -11,9 +11,16 @@ use questions::question::READALL;
 use questions::question::WRITEALL;
 use questions::question::WRITEDEVICE;
 use reader::read::read;
+use registers::Powered;
 use registers::power_on;
-use registers::powered_number;
 use show::text;
+
+fn is_on(powered: Powered) -> bool {
+    match powered {
+        Powered::On => true,
+        Powered::Twin => false,
+    }
+}
 
 fn main() {
     let mut memory = registers();
@@ -21,7 +28,7 @@ fn main() {
         b"A bench of three devices, rehearsed on the twin. The alive byte is on and starts at fe.\n\n",
     );
     let powered = power_on(3, &mut memory);
-    if powered_number(powered) != 0 {
+    if !is_on(powered) {
         text(b"The twin turns the call away.\n");
         return;
     }

@@ -12,7 +12,8 @@ use Rattle.packing.proofs.Back.{length-words}
 use Rattle.questions.specs.declared.question.Question.{Question}
 use Rattle.jobs.specs.declared.Header.{Header}
 use Rattle.jobs.specs.Format.{fieldSize, asked}
-use Rattle.jobs.specs.Rules.{keepsRules, unusedAreZero}
+use Rattle.used_fields.specs.Used.{unusedAreZero}
+use Rattle.jobs.specs.Rules.{keepsRules}
 use Rattle.jobs.specs.declared.Next.the-variants as next
 use Rattle.jobs.specs.Check.{wordsIn, sizeIn, entryIn, askedIn, goodEntry, placedIn, nextIn}
 

@@ -12,7 +12,8 @@ use Rattle.questions.specs.Question.{helloAll, writeDevice, readAll, readDevice
 use Rattle.questions.proofs.ByKind.{each-kind}
 use Rattle.jobs.specs.declared.Header.{Header}
 use Rattle.jobs.specs.Format.{Entry, asked}
-use Rattle.jobs.specs.Rules.{usesAt, usesOf, unusedAreZero, keepsRules}
+use Rattle.used_fields.specs.Used.{usesAt, usesOf, unusedAreZero}
+use Rattle.jobs.specs.Rules.{keepsRules}
 use Rattle.jobs.specs.Encoded.{Keeps}
 
 and-both : (a b : Bool) → a ≡ true → b ≡ true → (a && b) ≡ true

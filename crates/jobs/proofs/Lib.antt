@@ -1,7 +1,7 @@
 pub mod Sizes
 pub mod Walk
 mod EachEntry
-mod GoodEntry
+pub mod GoodEntry
 mod Keeps
 pub mod Entries
 pub mod Placed

@@ -1,38 +1,23 @@
-// The entries (document 01, "Job file and certificate"): whether one stands at the front of some bytes, whether nothing else stands behind the
-// header, and one taken out at its place.
+// The entries (document 01, "Job file and certificate"): whether one stands at the front of some bytes, its size, and one taken out at its place.
 use crate::Cursor;
 use crate::EntryAt;
 use crate::Header;
 use crate::Next;
 use crate::field_size;
-use crate::fields::are_unused_zero;
-use crate::heading::head_size;
 use packing::join;
 use questions::question::Question;
 use questions::question::ask;
+use slices::byte_or_zero;
+use used_fields::are_unused_zero;
 ghost use mathlib.Core.Path.{_≡_};
 ghost use mathlib.Core.Bool.{true};
 ghost use Prim.Native.Nat.{_+_, _≤_};
 ghost use lib.ListN.{length, drop};
-ghost use Rattle.jobs.specs.Format.{headSize, behindValue};
-ghost use Rattle.jobs.specs.Check.{wordsIn, sizeIn, askedIn, goodEntry, goodEntries, placedIn};
-
-pub(crate) fn are_good_entries(header: Header, file: &[u8]) -> bool
-    requires { ⌜ headSize ≤ length (now file) ⌝ }
-    ensures { λ r. ⌜ r ≡ goodEntries header (drop headSize (now (file .entry))) ⌝ }
-{
-    let mut at = head_size();
-    while at < file.len() {
-        if !is_good_entry(header, &file[at..]) {
-            return false;
-        }
-        at = at + size_in(&file[at..]);
-    }
-    true
-}
+ghost use Rattle.jobs.specs.Format.{behindValue};
+ghost use Rattle.jobs.specs.Check.{wordsIn, sizeIn, askedIn, goodEntry, placedIn};
 
 // Whether an entry stands at the front of some bytes: not cut short, and keeping the rules.
-pub(crate) fn is_good_entry(header: Header, front: &[u8]) -> bool
+pub fn is_good_entry(header: Header, front: &[u8]) -> bool
     ensures { λ r. ⌜ r ≡ goodEntry header (now (front .entry)) ⌝ }
 {
     if front.len() < field_size() {
@@ -56,7 +41,7 @@ pub(crate) fn entry_known_at(header: Header, file: &[u8], at: usize) -> Next
     requires { ⌜ (at ≤ length (now file)) × (goodEntry header (drop at (now file)) ≡ true) ⌝ }
     ensures { λ r. ⌜ r ≡ placedIn header at (drop at (now (file .entry))) ⌝ }
 {
-    let words = words_in(&file[at..]);
+    let words = words_in(&file[at..]) as usize;
     let question = question_in(header, &file[at..]);
     let start = at + field_size();
     Next::Entry(
@@ -72,22 +57,23 @@ pub(crate) fn entry_known_at(header: Header, file: &[u8], at: usize) -> Next
 }
 
 // Its size in bytes.
-fn size_in(front: &[u8]) -> usize
-    requires { ⌜ (behindValue + 4 ≤ length (now front)) × (wordsIn (now front) ≤ 140) ⌝ }
+pub fn size_in(front: &[u8]) -> usize
     ensures { λ r. ⌜ r ≡ sizeIn (now (front .entry)) ⌝ }
 {
-    field_size() + 2 * words_in(front)
+    field_size() + 2 * words_in(front) as usize
 }
 
 // Where device, seed and the number of words stand: behind the value.
 const BEHIND_VALUE: usize = 4;
 
 // How many words an entry has.
-fn words_in(front: &[u8]) -> usize
-    requires { ⌜ behindValue + 4 ≤ length (now front) ⌝ }
+fn words_in(front: &[u8]) -> u16
     ensures { λ r. ⌜ r ≡ wordsIn (now (front .entry)) ⌝ }
 {
-    join(front[BEHIND_VALUE + 2], front[BEHIND_VALUE + 3]) as usize
+    join(
+        byte_or_zero(front, BEHIND_VALUE + 2),
+        byte_or_zero(front, BEHIND_VALUE + 3),
+    )
 }
 
 fn question_in(header: Header, front: &[u8]) -> Question

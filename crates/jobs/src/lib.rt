@@ -1,19 +1,13 @@
-// Job files (document 01, "Job file and certificate"): which bytes are one, and its entries one after the other, read where they stand in
+// Job files (document 01, "Job file and certificate"): what one is made of, and its entries one after the other, read where they stand in
 // the lent file with a cursor that goes by value.
-mod entry;
-mod fields;
-mod heading;
+pub mod entry;
 
-use entry::are_good_entries;
 use entry::entry_known_at;
 use entry::is_good_entry;
-use heading::head_size;
-use heading::is_good_header;
-use heading::is_marked;
 use questions::question::Question;
 ghost use mathlib.Core.Path.{_≡_};
 ghost use Rattle.jobs.specs.Format.{headSize, fieldSize};
-ghost use Rattle.jobs.specs.Check.{openedOf, openedNumber, nextOf, nextNumber};
+ghost use Rattle.jobs.specs.Check.{nextOf};
 
 // How many devices the chain has, and whether the alive byte is on.
 pub struct Header {
@@ -46,48 +40,11 @@ pub enum Next {
     File,
 }
 
-// Which fields a question uses.
-pub struct Uses {
-    pub register: bool,
-    pub value: bool,
-    pub device: bool,
-    pub seed: bool,
-}
-
-// The whole file looked through: FILE is given exactly where it is no job file.
-pub fn open(file: &[u8]) -> Opened
-    ensures { λ r. ⌜ r ≡ openedOf (now (file .entry)) ⌝ }
+// How many bytes stand in front of the first entry.
+pub fn head_size() -> usize
+    ensures { λ r. ⌜ r ≡ headSize ⌝ }
 {
-    if 65536 < file.len() {
-        return Opened::File;
-    }
-    if file.len() < head_size() {
-        return Opened::File;
-    }
-    if !is_marked(file) {
-        return Opened::File;
-    }
-    let header = Header {
-        n: file[5],
-        alive: file[6],
-    };
-    if !is_good_header(header) {
-        return Opened::File;
-    }
-    if !are_good_entries(header, file) {
-        return Opened::File;
-    }
-    Opened::Job(header)
-}
-
-// Document 01's number of an answer: 0 for a job file.
-pub fn opened_number(opened: Opened) -> u8
-    ensures { λ r. ⌜ r ≡ openedNumber opened ⌝ }
-{
-    match opened {
-        Opened::Job(_) => 0,
-        Opened::File => 14,
-    }
+    7
 }
 
 // Where the first entry stands: behind the header.
@@ -116,15 +73,4 @@ pub fn next_entry(header: Header, file: &[u8], cursor: Cursor) -> Next
         return Next::File;
     }
     entry_known_at(header, file, at)
-}
-
-// Document 01's number of an answer: the end of the entries is no refusal.
-pub fn next_number(next: Next) -> u8
-    ensures { λ r. ⌜ r ≡ nextNumber next ⌝ }
-{
-    match next {
-        Next::Entry(_, _) => 0,
-        Next::End => 0,
-        Next::File => 14,
-    }
 }

@@ -3,7 +3,6 @@ use mathlib.Core.Path.{sym, _∙_}
 use denote.Ref.{now}
 use Rattle.ground.specs.Agree.{Settled, SettledIn}
 use Rattle.printing.proofs.print.Reads as print
-use Rattle.printing.proofs.printed_number.Reads as printed-number
 
 pub print-settled : Settled print.Post
 print-settled l given r r′ left left′ p q = p .says ∙ sym (q .says)
@@ -11,6 +10,3 @@ print-settled l given r r′ left left′ p q = p .says ∙ sym (q .says)
 -- the lent text
 pub print-settled-text : SettledIn (λ l left. now (left .1 .1 .1 .0)) print.Post
 print-settled-text l given r r′ left left′ p q = p .leaves ∙ sym (q .leaves)
-
-pub printed-number-settled : Settled printed-number.Post
-printed-number-settled l given r r′ left left′ p q = p ∙ sym q

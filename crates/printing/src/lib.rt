@@ -12,7 +12,7 @@ ghost use mathlib.Core.Path.{_≡_};
 ghost use Prim.Native.Nat.{_≤_};
 ghost use lib.ListN.{length};
 ghost use Rattle.printing.specs.Text.{certificateText};
-ghost use Rattle.printing.specs.Print.{StoredAt, mostEntries, PrintDone, printedNumber};
+ghost use Rattle.printing.specs.Print.{StoredAt, mostEntries, PrintDone};
 
 // How many bytes the text has; or why nothing was written: more entries than a job file can have, or too little room.
 pub enum Printed {
@@ -37,17 +37,6 @@ pub fn print(n: u8, numbers: &[u8], standing: Standing, text: &mut [u8]) -> Prin
         return Printed::Room;
     }
     Printed::Bytes(lay(n, numbers, standing, text))
-}
-
-// Document 01's number of an answer: 0 where the text was written.
-pub fn printed_number(printed: Printed) -> u8
-    ensures { λ r. ⌜ r ≡ printedNumber printed ⌝ }
-{
-    match printed {
-        Printed::Bytes(_) => 0,
-        Printed::Many => 14,
-        Printed::Room => 2,
-    }
 }
 
 fn lay(n: u8, numbers: &[u8], standing: Standing, text: &mut [u8]) -> usize

@@ -4,7 +4,6 @@ use denote.Ref.{now}
 use Rattle.ground.specs.Agree.{Settled, SettledIn}
 use Rattle.registers.proofs.is_chain.Reads as is-chain
 use Rattle.registers.proofs.power_on.Reads as power-on
-use Rattle.registers.proofs.powered_number.Reads as powered-number
 
 pub is-chain-settled : Settled is-chain.Post
 is-chain-settled l given r r′ left left′ p q = p ∙ sym q
@@ -15,6 +14,3 @@ power-on-settled l given r r′ left left′ p q = p .says ∙ sym (q .says)
 -- the lent memory
 pub power-on-settled-memory : SettledIn (λ l left. now (left .1 .0)) power-on.Post
 power-on-settled-memory l given r r′ left left′ p q = p .leaves ∙ sym (q .leaves)
-
-pub powered-number-settled : Settled powered-number.Post
-powered-number-settled l given r r′ left left′ p q = p ∙ sym q

@@ -3,7 +3,7 @@ ghost use mathlib.Core.Path.{_≡_};
 ghost use Prim.Native.Nat.{_%_};
 ghost use lib.ListN.{length};
 ghost use Rattle.ground.specs.Sweep.{tabulated};
-ghost use Rattle.registers.specs.Memory.{isChain, powerOnFigure, fresh, PoweredOn, poweredNumber};
+ghost use Rattle.registers.specs.Memory.{isChain, powerOnFigure, fresh, PoweredOn};
 
 // The memory was filled, or row 15, TWIN.
 pub enum Powered {
@@ -61,14 +61,4 @@ pub fn power_on(n: u8, memory: &mut [u16]) -> Powered
     }
     fill(memory);
     Powered::On
-}
-
-// Document 01's number of an answer: 0 where the memory was filled.
-pub fn powered_number(powered: Powered) -> u8
-    ensures { λ r. ⌜ r ≡ poweredNumber powered ⌝ }
-{
-    match powered {
-        Powered::On => 0,
-        Powered::Twin => 15,
-    }
 }

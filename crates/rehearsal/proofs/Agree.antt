@@ -3,13 +3,9 @@ use mathlib.Core.Path.{sym, _∙_}
 use denote.Ref.{now}
 use Rattle.ground.specs.Agree.{Settled, SettledIn}
 use Rattle.rehearsal.proofs.rehearse.Reads as rehearse
-use Rattle.rehearsal.proofs.rehearsed_number.Reads as rehearsed-number
 
 pub rehearse-settled : Settled rehearse.Post
 rehearse-settled l given r r′ left left′ p q = p .says ∙ sym (q .says)
 
 pub rehearse-settled-out : SettledIn (λ l left. now (left .1 .0)) rehearse.Post
 rehearse-settled-out l given r r′ left left′ p q = p .leaves ∙ sym (q .leaves)
-
-pub rehearsed-number-settled : Settled rehearsed-number.Post
-rehearsed-number-settled l given r r′ left left′ p q = p ∙ sym q

@@ -7,9 +7,9 @@ mod entry;
 use answer::answer_all;
 use count::answered_length;
 use jobs::Opened;
-use jobs::open;
+use opening::open;
 ghost use mathlib.Core.Path.{_≡_};
-ghost use Rattle.rehearsal.specs.Rehearsal.{RehearsalDone, rehearsedNumber};
+ghost use Rattle.rehearsal.specs.Rehearsal.{RehearsalDone};
 
 // How many bytes the answered file has; or which row turned the call away.
 pub enum Rehearsed {
@@ -42,15 +42,4 @@ pub fn rehearse(file: &[u8], out: &mut [u8]) -> Rehearsed
     }
     answer_all(header, file, out);
     Rehearsed::Bytes(bytes)
-}
-
-// Document 01's number of an answer: 0 where the file was written.
-pub fn rehearsed_number(rehearsed: Rehearsed) -> u8
-    ensures { λ r. ⌜ r ≡ rehearsedNumber rehearsed ⌝ }
-{
-    match rehearsed {
-        Rehearsed::Bytes(_) => 0,
-        Rehearsed::File => 14,
-        Rehearsed::Room => 2,
-    }
 }

@@ -5,7 +5,6 @@ use Rattle.ground.specs.Agree.{Settled, SettledIn}
 use Rattle.twin.proofs.step.step.Reads as step
 use Rattle.twin.proofs.step.run_span.Reads as run-span
 use Rattle.twin.proofs.step.run_chain.Reads as run-chain
-use Rattle.twin.proofs.step.stepped_number.Reads as stepped-number
 
 pub step-settled : Settled step.Post
 step-settled l given r r′ left left′ p q = p .says ∙ sym (q .says)
@@ -34,6 +33,3 @@ run-chain-settled-memory l given r r′ left left′ p q = p .remembers ∙ sym 
 
 pub run-chain-settled-out : SettledIn (λ l left. now (left .1 .1 .1 .0)) run-chain.Post
 run-chain-settled-out l given r r′ left left′ p q = p .leaves ∙ sym (q .leaves)
-
-pub stepped-number-settled : Settled stepped-number.Post
-stepped-number-settled l given r r′ left left′ p q = p ∙ sym q

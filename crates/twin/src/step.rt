@@ -6,7 +6,7 @@ ghost use mathlib.Core.Path.{_≡_};
 ghost use Prim.Native.Nat.{_+_, _*_, _≤_, _<_};
 ghost use lib.ListN.{length};
 ghost use Rattle.lines.specs.Write.{atFront};
-ghost use Rattle.twin.specs.Step.{withChange, Hopped, isSpan, StepDone, SpanDone, ChainDone, steppedNumber};
+ghost use Rattle.twin.specs.Step.{withChange, Hopped, isSpan, StepDone, SpanDone, ChainDone};
 
 // The line was handed on, or which row turned the call away.
 pub enum Stepped {
@@ -112,15 +112,4 @@ pub fn run_chain(n: u8, memory: &mut [u16], line: &[u16], out: &mut [u16]) -> St
     ensures { λ r. ⌜ ChainDone n (now (memory .entry)) (now (memory .exit)) (now (line .entry)) (now (out .entry)) (now (out .exit)) r ⌝ }
 {
     run_span(n, 0, n, memory, line, out)
-}
-
-// Document 01's number of an answer: 0 where the line was handed on.
-pub fn stepped_number(stepped: Stepped) -> u8
-    ensures { λ r. ⌜ r ≡ steppedNumber stepped ⌝ }
-{
-    match stepped {
-        Stepped::Handed => 0,
-        Stepped::Twin => 15,
-        Stepped::Room => 2,
-    }
 }

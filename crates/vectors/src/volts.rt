@@ -2,12 +2,12 @@
 use crate::show::number;
 use crate::show::text;
 use crate::show::word;
+use cell_numbers::number_of;
 use cells::Cell;
 use cells::CellRefusal;
 use cells::Range;
 use cells::Register;
 use cells::Voltage;
-use cells::number_of;
 use cells::read_cell;
 
 fn range_name(range: Range) {

@@ -4,7 +4,6 @@ use mathlib.Core.Path.{sym, _∙_}
 use denote.Ref.{now}
 use Rattle.ground.specs.Agree.{Settled, SettledIn}
 use Rattle.writing.proofs.put_line.Reads as put-line
-use Rattle.writing.proofs.put_number.Reads as put-number
 
 pub put-line-settled : Settled put-line.Post
 put-line-settled l given r r′ left left′ p q = p .says ∙ sym (q .says)
@@ -12,6 +11,3 @@ put-line-settled l given r r′ left left′ p q = p .says ∙ sym (q .says)
 -- the lent words
 pub put-line-settled-out : SettledIn (λ l left. now (left .1 .0)) put-line.Post
 put-line-settled-out l given r r′ left left′ p q = p .leaves ∙ sym (q .leaves)
-
-pub put-number-settled : Settled put-number.Post
-put-number-settled l given r r′ left left′ p q = p ∙ sym q

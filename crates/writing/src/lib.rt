@@ -5,7 +5,7 @@ use characters::word_of;
 ghost use mathlib.Core.Path.{_≡_};
 ghost use Prim.Native.Nat.{_+_, _*_, _<_};
 ghost use lib.ListN.{length};
-ghost use Rattle.writing.specs.PutLine.{LinePut, putNumber, withByte};
+ghost use Rattle.writing.specs.PutLine.{LinePut, withByte};
 
 // How many words were put, or why none.
 pub enum Put {
@@ -37,14 +37,4 @@ pub fn put_line(bytes: &[u8], out: &mut [u16]) -> Put
     }
     out[2 * i + 1] = STOP;
     Put::Words(2 * i + 2)
-}
-
-// Document 01's number of an answer: 0 where the line was put.
-pub fn put_number(put: Put) -> u8
-    ensures { λ r. ⌜ r ≡ putNumber put ⌝ }
-{
-    match put {
-        Put::Words(_) => 0,
-        Put::NoRoom => 2,
-    }
 }

@@ -7,7 +7,7 @@ use borrow.Author.Tests.{not-true, not-false}
 use Rattle.questions.specs.Question.{goodQuestion}
 use Rattle.questions.specs.declared.question.Shape.{Shape}
 use Rattle.questions.proofs.Good.{good-values}
-use Rattle.commands.proofs.Taken.{head-within, head-length, head-short}
+use Rattle.heads.proofs.Taken.{head-within, head-length, head-short}
 use Rattle.c_commands.proofs.Answered.{bad-question, few-words, no-room, room-for, command-laid}
 use borrow.Author.Needs.{needs}
 use Rattle.c_commands.proofs.command_bytes.Statement.{statement}

@@ -9,7 +9,7 @@ use Rattle.writing.specs.PutLine.{LinePut}
 use Rattle.questions.specs.Question.{goodQuestion}
 use Rattle.questions.specs.declared.question.Shape.{Shape}
 use Rattle.questions.proofs.Good.{good-values}
-use Rattle.commands.proofs.Taken.{head-within, head-length, head-short, head-taken}
+use Rattle.heads.proofs.Taken.{head-within, head-length, head-short, head-taken}
 use Rattle.commands.proofs.Writing.{command-refused, command-put}
 use borrow.Author.Needs.{needs}
 use Rattle.commands.proofs.write_command.Statement.{statement}

@@ -14,8 +14,8 @@ slice-aggregate-run-chain c = search needs
 run-chain-requires : tie.Need-run-chain-requires
 run-chain-requires c κs = search needs
 
-stepped-number-requires : tie.Need-stepped-number-requires
-stepped-number-requires c κs = search needs
+is-turned-away-requires : tie.Need-is-turned-away-requires
+is-turned-away-requires c κs = search needs
 
 slice-aggregate-text : tie.Need-slice-aggregate-text
 slice-aggregate-text c = search needs
@@ -57,7 +57,7 @@ through-the-chain-spec =
     line-of-words-requires
     slice-aggregate-run-chain
     run-chain-requires
-    stepped-number-requires
+    is-turned-away-requires
     slice-aggregate-text
     text-requires
     same-length

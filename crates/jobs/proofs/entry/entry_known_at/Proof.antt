@@ -20,7 +20,10 @@ part-words-in-end : tie.Need-part-words-in-end
 part-words-in-end c = search needs
 
 words-in-requires : tie.Need-words-in-requires
-words-in-requires c κs = let a = c .before .before .args in omega (arith, ap length (part-to-end (a .file .now) (a .at)), good (a .header) (drop (a .at) (a .file .now)) (c .before .before .pre .1) .whole, field-bounds .0)
+words-in-requires c κs = search needs
+
+cast-words : tie.Need-cast-words
+cast-words c = search needs
 
 sub-question-in : tie.Need-sub-question-in
 sub-question-in c = search needs
@@ -40,14 +43,14 @@ field-size-requires c κs = search needs
 add-start : tie.Need-add-start
 add-start c = let a = c .before .before .before .before .before .before .args in omega (arith, c .field-size .ensures, good (a .header) (drop (a .at) (a .file .now)) (c .before .before .before .before .before .before .pre .1) .whole, length-drop (a .at) (a .file .now))
 
-mul-t8 : tie.Need-mul-t8
-mul-t8 c =
+mul-t9 : tie.Need-mul-t9
+mul-t9 c =
     let a = c .before .before .before .before .before .before .args in
     let words = c .before .before .before .words-in .ensures ∙ ap wordsIn (part-to-end (a .file .now) (a .at)) in
     omega (arith, words, good (a .header) (drop (a .at) (a .file .now)) (c .before .before .before .before .before .before .pre .1) .words)
 
-add-t15 : tie.Need-add-t15
-add-t15 c =
+add-t16 : tie.Need-add-t16
+add-t16 c =
     let a = c .before .before .before .before .before .before .args in
     let words = c .before .before .before .words-in .ensures ∙ ap wordsIn (part-to-end (a .file .now) (a .at)) in
     omega (arith, c .field-size .ensures, words, good (a .header) (drop (a .at) (a .file .now)) (c .before .before .before .before .before .before .pre .1) .whole, length-drop (a .at) (a .file .now))
@@ -66,12 +69,13 @@ entry-known-at-spec =
     part-words-in-start
     part-words-in-end
     words-in-requires
+    cast-words
     sub-question-in
     part-question-in-start
     part-question-in-end
     question-in-requires
     field-size-requires
     add-start
-    mul-t8
-    add-t15
+    mul-t9
+    add-t16
     returns)

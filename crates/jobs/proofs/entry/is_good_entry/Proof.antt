@@ -5,7 +5,7 @@ use native.Mathlib.Omega.{arith}
 use lib.ListN.{getD}
 use borrow.Author.Tests.{le-leb, lt-leb}
 use Rattle.questions.specs.declared.question.Question.{Question}
-use Rattle.jobs.specs.Rules.{unusedAreZero}
+use Rattle.used_fields.specs.Used.{unusedAreZero}
 use Rattle.jobs.specs.Check.{askedIn}
 use Rattle.jobs.proofs.Sizes.{field-bounds}
 use Rattle.jobs.proofs.GoodEntry.{too-short, too-many, cut-short, of-its-fields}
@@ -20,13 +20,13 @@ returns : tie.Need-returns
 returns c = sym (too-short (c .before .before .before .args .header) (c .before .before .before .args .front .now) (omega (arith, c .before .field-size .ensures, c .if1 .taken)))
 
 words-in-requires : tie.Need-words-in-requires
-words-in-requires c κs = omega (arith, field-bounds .0, c .before .field-size .ensures, c .if1 .left)
+words-in-requires c κs = search needs
 
 returns-2 : tie.Need-returns-2
 returns-2 c = sym (too-many (c .before .before .before .before .before .args .header) (c .before .before .before .before .before .args .front .now) (omega (arith, c .before .words-in .ensures, c .if2 .taken)))
 
 size-in-requires : tie.Need-size-in-requires
-size-in-requires c κs = (omega (arith, field-bounds .0, c .before .before .before .field-size .ensures, c .before .before .if1 .left), omega (arith, c .before .words-in .ensures, c .if2 .left))
+size-in-requires c κs = search needs
 
 returns-3 : tie.Need-returns-3
 returns-3 c = sym (cut-short (c .before .before .before .before .before .before .before .args .header) (c .before .before .before .before .before .before .before .args .front .now) (omega (arith, c .before .size-in .ensures, c .if3 .taken)))

@@ -1,4 +1,4 @@
--- `size_in` meets its contract: no overflow, since the words are 140 at most.
+-- `size_in` meets its contract: no overflow, since sixteen bits say how many words there are.
 use native.Mathlib.Omega.{arith}
 use Rattle.jobs.proofs.Sizes.{field-bounds}
 use borrow.Author.Needs.{needs}
@@ -11,15 +11,18 @@ field-size-requires c κs = search needs
 words-in-requires : tie.Need-words-in-requires
 words-in-requires c κs = search needs
 
+cast-result : tie.Need-cast-result
+cast-result c = search needs
+
 mul-result : tie.Need-mul-result
-mul-result c = omega (arith, c .words-in .ensures, c .before .before .before .pre .1)
+mul-result c = search needs
 
 add-result : tie.Need-add-result
-add-result c = omega (arith, c .words-in .ensures, c .before .field-size .ensures, c .before .before .before .pre .1, field-bounds .1)
+add-result c = omega (arith, c .before .field-size .ensures, field-bounds .1)
 
 returns : tie.Need-returns
 returns c = search needs
 
 pub size-in-spec : {M : Type 1} → statement M
 size-in-spec =
-    tie.close (tie.spec field-size-requires words-in-requires mul-result add-result returns)
+    tie.close (tie.spec field-size-requires words-in-requires cast-result mul-result add-result returns)
