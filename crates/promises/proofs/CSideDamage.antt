@@ -1,13 +1,13 @@
 -- The C side's damage: the bytes of a line's words are that line again, so that demand 3 on words turns them away.
 use mathlib.Core.Path.{_≡_, refl, sym, ap, ap₂, subst, _∙_}
 use mathlib.Core.List.{List}
-use Prim.Native.Nat.{ℕ, _/_, _≤_}
+use Prim.Native.Nat.{ℕ, _*_, _/_, _≤_}
 use native.Mathlib.Omega.{arith}
 use lib.ListN.{length, replicate, length-replicate}
-use Rattle.remainder.specs.Turned.{turned}
+use Rattle.remainder.specs.Turned.{turned, weight, Bytes}
 use Rattle.lines.specs.Write.{atFront}
-use Rattle.packing.specs.Words.{asBytes}
-use Rattle.packing.proofs.Back.{length-bytes}
+use Rattle.packing.specs.Words.{wordsOf, asBytes}
+use Rattle.packing.proofs.Back.{length-bytes, length-words, bytes-back}
 use Rattle.questions.specs.Shape.{shapeOf}
 use Rattle.questions.specs.declared.question.Question.{Question}
 use Rattle.questions.proofs.ByKind.{of-read}
@@ -27,6 +27,7 @@ use Rattle.promises.proofs.RefusedBytes.{refused-read-bytes}
 use Rattle.promises.proofs.Demand3.{values-wanted, all-values, demand-3}
 use Rattle.promises.proofs.CSideLine.{line-on}
 use Rattle.promises.proofs.CSideAnswers.{own-number, c-side-answers}
+use Rattle.promises.proofs.BytesTurned.{bytes-turned, weight-bytes}
 
 module _ (q : Question) (values : List ℕ) (all : ReadsAll q values) where
   taken : (before after : List ℕ) (r : ℕ) → length (asBytes values) ≤ length before → ReadBytesDone q (asBytes (answerLine q values)) before after r
@@ -61,3 +62,19 @@ module _ (q : Question) (values : List ℕ) (all : ReadsAll q values) where
 
 pub c-side-damage : CSideDamage
 c-side-damage = record { undamaged = taken; damaged = damaged }
+
+-- the same of bits turned over in the bytes themselves, one mask a byte: they are as many bits turned over in the words
+pub damaged-bytes : (q : Question) (values : List ℕ) → ReadsAll q values → (masks : List ℕ) → Bytes masks
+    → Damage (asBytes (answerLine q values)) masks (mostBits (q .n))
+    → (before after : List ℕ) (r : ℕ) → ReadBytesDone q (turned (asBytes (answerLine q values)) masks) before after r
+    → TurnedAway (packedNumber r) × (after ≡ before)
+damaged-bytes q values all masks small d before after r done =
+    let line = answerLine q values in
+    let m = wordsOf masks in
+    let size : length masks ≡ 2 * length line = d .every ∙ length-bytes line in
+    let back : asBytes m ≡ masks = bytes-back masks (length line) size small in
+    let number : length m ≡ length line = omega (arith, length-words masks, size) in
+    let same : weight masks ≡ weight m = ap weight (sym back) ∙ weight-bytes m in
+    let bytes : turned (asBytes line) masks ≡ asBytes (turned line m) = ap (turned (asBytes line)) (sym back) ∙ sym (bytes-turned line m (sym number)) in
+    c-side-damage .damaged q values all m (record { every = number; some = omega (arith, d .some, same); few = omega (arith, d .few, same) }) before after r
+    (subst (λ (l : List ℕ). ReadBytesDone q l before after r) bytes done)

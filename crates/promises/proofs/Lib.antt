@@ -27,5 +27,5 @@ pub mod SecondCall
 mod CSideLine
 pub mod CSideCommands
 pub mod CSideAnswers
-pub mod BytesTurned
+mod BytesTurned
 pub mod CSideDamage
