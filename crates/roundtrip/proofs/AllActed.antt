@@ -10,22 +10,18 @@ use lib.ListN.{length}
 use borrow.Author.Tests.{lt-ltb}
 use Rattle.ground.specs.Sweep.{tabulated}
 use Rattle.ground.proofs.Sweep.{length-tabulated}
-use Rattle.questions.specs.Question.{byKind, goodQuestion}
+use Rattle.questions.specs.Question.{goodQuestion}
 use Rattle.questions.specs.Shape.{shapeAt, shapeOf}
 use Rattle.questions.specs.declared.question.Question.{Question}
 use Rattle.questions.proofs.ByKind.{each-kind}
 use Rattle.questions.proofs.Good.{good-kind, good-device}
 use Rattle.acceptance.specs.Answer.{Registers, Sendable}
-use Rattle.roundtrip.specs.Between.{held, actedAt, acted, putAt, putIn, broughtBack}
+use Rattle.roundtrip.specs.Between.{held, actedAt, acted, putAt, putIn, broughtAt, broughtBack}
 use Rattle.roundtrip.proofs.Values.{held-lt, tabulated-registers, one-register}
 use Rattle.roundtrip.proofs.CommandFirst.{oneIf}
 
 module _ (q : Question) (good : goodQuestion q ≡ true) (sends : Sendable q) (n : ℕ) (chain : 1 ≤ q .kind → q .n ≡ n)
     (memory : List ℕ) (words : Registers memory) where
-  -- what comes back, by kind
-  abbrev broughtAt : ℕ → List ℕ
-  broughtAt x = byKind x (n ∷ []) [] [] (tabulated (λ (k : ℕ). held memory k (q .reg)) n 0) (held memory (q .device) (q .reg) ∷ [])
-
   kind : q .kind ≤ 4
   kind = good-kind q good
 
@@ -48,7 +44,7 @@ module _ (q : Question) (good : goodQuestion q ≡ true) (sends : Sendable q) (n
   all-put reads =
       let one = held memory (q .device) (q .reg) in
       let all = tabulated (λ (k : ℕ). held memory k (q .reg)) n 0 in
-      each-kind (λ (x : ℕ). q .kind ≡ x → 3 ≤ x → putAt x q n memory ≡ broughtAt x)
+      each-kind (λ (x : ℕ). q .kind ≡ x → 3 ≤ x → putAt x q n memory ≡ broughtAt x q n memory)
       (λ e lo. absurd (omega arith)) (λ e lo. absurd (omega arith)) (λ e lo. absurd (omega arith)) (λ e lo. refl)
       (λ e lo. ap (λ (t : Bool). cond t (one ∷ []) []) (named-within (inr e))) (q .kind) kind refl reads
 
@@ -57,7 +53,7 @@ module _ (q : Question) (good : goodQuestion q ≡ true) (sends : Sendable q) (n
   all-number reads =
       let one = held memory (q .device) (q .reg) in
       let f : ℕ → ℕ = λ k. held memory k (q .reg) in
-      each-kind (λ (x : ℕ). 3 ≤ x → length (broughtAt x) ≡ shapeAt x q .values)
+      each-kind (λ (x : ℕ). 3 ≤ x → length (broughtAt x q n memory) ≡ shapeAt x q .values)
       (λ lo. absurd (omega arith)) (λ lo. absurd (omega arith)) (λ lo. absurd (omega arith))
       (λ lo. length-tabulated f n 0 ∙ sym (chain (omega arith))) (λ lo. refl) (q .kind) kind reads
 
@@ -67,17 +63,17 @@ module _ (q : Question) (good : goodQuestion q ≡ true) (sends : Sendable q) (n
   all-registers reads =
       let one = held memory (q .device) (q .reg) in
       let f : ℕ → ℕ = λ k. held memory k (q .reg) in
-      each-kind (λ (x : ℕ). 3 ≤ x → Registers (broughtAt x))
+      each-kind (λ (x : ℕ). 3 ≤ x → Registers (broughtAt x q n memory))
       (λ lo. absurd (omega arith)) (λ lo. absurd (omega arith)) (λ lo. absurd (omega arith))
       (λ lo. tabulated-registers f n (λ k. held-lt memory words k (q .reg) (sends .reg)))
       (λ lo. one-register one (held-lt memory words (q .device) (q .reg) (sends .reg))) (q .kind) kind reads
 
   pub hello-back : q .kind ≡ 0 → broughtBack q n memory ≡ n ∷ []
   unfolding broughtBack
-  hello-back e = ap (λ (x : ℕ). broughtAt x) e
+  hello-back e = ap (λ (x : ℕ). broughtAt x q n memory) e
 
   pub write-back : 1 ≤ q .kind → q .kind ≤ 2 → broughtBack q n memory ≡ []
   unfolding broughtBack
   write-back some low =
-      each-kind (λ (x : ℕ). 1 ≤ x → x ≤ 2 → broughtAt x ≡ [])
+      each-kind (λ (x : ℕ). 1 ≤ x → x ≤ 2 → broughtAt x q n memory ≡ [])
       (λ lo hi. absurd (omega arith)) (λ lo hi. refl) (λ lo hi. refl) (λ lo hi. absurd (omega arith)) (λ lo hi. absurd (omega arith)) (q .kind) kind some low

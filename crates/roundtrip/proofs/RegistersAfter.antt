@@ -22,7 +22,7 @@ use Rattle.passage.specs.Pass.{storeOf, changeAsked, changed}
 use Rattle.passage.specs.declared.pass.Change.{Change}
 use Rattle.passage.specs.declared.pass.Change.the-variants.{Nothing, Store}
 use Rattle.twin.specs.Step.{registersOf, chainWith, hops}
-use Rattle.roundtrip.specs.Between.{held, reaches, ChangedBy, For}
+use Rattle.roundtrip.specs.Between.{held, writeReaches, reaches, ChangedBy, For}
 use Rattle.twin.proofs.Stepping.{hops-memory}
 use Rattle.roundtrip.proofs.Values.{held-lt}
 use Rattle.roundtrip.proofs.PutInSoFar.{covers-at}
@@ -72,9 +72,6 @@ module _ (q : Question) (registers : List ℕ) (size : length registers ≡ 256)
           other-kept z zero-reg (λ same. false≢true (sym other ∙ eq-eqb r (q .reg) same))
           ∙ sym (ap (λ (t : Bool). cond (t && not (eqb r 0x00)) (q .value) (getD registers r 0)) other)
 
-  abbrev writeReaches : (k : ℕ) → Bool
-  writeReaches k = covers q k && eqb r (q .reg) && not (eqb r 0x00)
-
   -- any question, to a device that it covers or not
   by-change : (k : ℕ) → after (cond (covers q k) (changeAsked q) Nothing) ≡ cond (reaches q k r) (q .value) (getD registers r 0)
   unfolding reaches
@@ -84,7 +81,7 @@ module _ (q : Question) (registers : List ℕ) (size : length registers ≡ 256)
       (λ (e : q .kind ≡ 0). nothing (others-ask-nothing q (λ x. absurd (omega arith)) (λ x. absurd (omega arith))) (of-hello (q .kind) _ _ _ e))
       (λ (some : 1 ≤ q .kind).
       ap (λ (c : Change). after (cond (covers q k) c Nothing)) (write-asks q some (omega arith)) ∙ either (covers q k)
-      ∙ sym (ap (λ (t : Bool). cond t (q .value) (getD registers r 0)) (of-write (q .kind) false (writeReaches k) false some (omega arith))))
+      ∙ sym (ap (λ (t : Bool). cond t (q .value) (getD registers r 0)) (of-write (q .kind) false (writeReaches q k r) false some (omega arith))))
       (eq-zero-or-pos (q .kind)))
       (λ (reads : 3 ≤ q .kind). nothing (others-ask-nothing q (λ x. absurd (omega arith)) (λ x. absurd (omega arith))) (of-read (q .kind) _ _ _ reads))
       (below-or-not (q .kind) 3)
@@ -93,8 +90,8 @@ module _ (q : Question) (registers : List ℕ) (size : length registers ≡ 256)
       same-either true = refl
       same-either false = refl
 
-      nothing : changeAsked q ≡ Nothing → byForm (q .kind) false (writeReaches k) false ≡ false
-          → after (cond (covers q k) (changeAsked q) Nothing) ≡ cond (byForm (q .kind) false (writeReaches k) false) (q .value) (getD registers r 0)
+      nothing : changeAsked q ≡ Nothing → byForm (q .kind) false (writeReaches q k r) false ≡ false
+          → after (cond (covers q k) (changeAsked q) Nothing) ≡ cond (byForm (q .kind) false (writeReaches q k r) false) (q .value) (getD registers r 0)
       nothing asks none =
           ap (λ (c : Change). after (cond (covers q k) c Nothing)) asks ∙ same-either (covers q k)
           ∙ sym (ap (λ (t : Bool). cond t (q .value) (getD registers r 0)) none)

@@ -44,15 +44,21 @@ abbrev pub lineBetween : Question → (m : ℕ) → (memory : List ℕ) → List
 lineBetween q m memory = lineOf (onTheWay q m (acted q m) (onWire (putIn q m memory)))
 
 -- what comes back from a chain of n: HELLOALL's count, nothing for a write, the registers as they stand for a read, in address order
-unfoldable pub broughtBack : Question → (n : ℕ) → (memory : List ℕ) → List ℕ
-broughtBack q n memory =
-    byKind (q .kind) (n ∷ []) [] []
+abbrev pub broughtAt : (kind : ℕ) → Question → (n : ℕ) → (memory : List ℕ) → List ℕ
+broughtAt kind q n memory =
+    byKind kind (n ∷ []) [] []
     (tabulated (λ (k : ℕ). held memory k (q .reg)) n 0)
     (held memory (q .device) (q .reg) ∷ [])
 
+unfoldable pub broughtBack : Question → (n : ℕ) → (memory : List ℕ) → List ℕ
+broughtBack q n memory = broughtAt (q .kind) q n memory
+
 -- a write reaches register r of device k; register 0x00 keeps its value, and reads and HELLOALL change none
+abbrev pub writeReaches : Question → (k r : ℕ) → Bool
+writeReaches q k r = covers q k && eqb r (q .reg) && not (eqb r 0x00)
+
 unfoldable pub reaches : Question → (k r : ℕ) → Bool
-reaches q k r = byForm (q .kind) false (covers q k && eqb r (q .reg) && not (eqb r 0x00)) false
+reaches q k r = byForm (q .kind) false (writeReaches q k r) false
 
 -- the registers of a chain of n after a question: a write's value where it reaches, all else as it was
 abbrev pub ChangedBy : (q : Question) (n : ℕ) (memory after : List ℕ) → Type 0
