@@ -32,7 +32,7 @@ turned-away file text bad =
 -- a good file has no more entries than can be printed
 pub countable : (file : List ℕ) → goodFile file ≡ true → length (numbersOf (heardIn file)) ≤ mostEntries
 countable file ok =
-    let entries = entriesIn (drop headSize file) in
+    let entries = entriesIn (headerIn file .version) (drop headSize file) in
     let p = parts file ok in
     omega (
       arith,
@@ -46,15 +46,15 @@ countable file ok =
     )
 
 pub certified : (h : Header) (file text text′ : List ℕ) (r : Printed) → goodFile file ≡ true → h ≡ headerIn file
-    → PrintDone (h .n) (numbersOf (heardIn file)) (standingOf file) text text′ r → CertificateDone file text text′ (certifiedAs r)
+    → PrintDone (h .version) (h .n) (numbersOf (heardIn file)) (standingOf file) text text′ r → CertificateDone file text text′ (certifiedAs r)
 unfolding certifiedOf certificateOf printedOf
 certified h file text text′ r ok is done =
     let numbers = numbersOf (heardIn file) in
     let few = le-leb (length numbers) mostEntries (countable file ok) in
-    let done′ = subst (λ (x : Header). PrintDone (x .n) numbers (standingOf file) text text′ r) is done in
-    let cert = certificateText (headerIn file .n) numbers (standingOf file) in
+    let done′ = subst (λ (x : Header). PrintDone (x .version) (x .n) numbers (standingOf file) text text′ r) is done in
+    let cert = certificateText (headerIn file .version) (headerIn file .n) numbers (standingOf file) in
     let fits = leb (length cert) (length text) in
-    let answer = printedOf (headerIn file .n) numbers (standingOf file) text in
+    let answer = printedOf (headerIn file .version) (headerIn file .n) numbers (standingOf file) text in
     let said : certifiedAs answer ≡ certifiedOf file text =
     ap (λ (t : Bool). certifiedAs (cond t (cond fits (printed.Bytes (length cert)) printed.Room) printed.Many)) few
     ∙ either fits (length cert) ∙ sym (ap (λ (t : Bool). cond t (cond fits (Bytes (length cert)) Room) File) ok) in

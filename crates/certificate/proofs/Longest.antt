@@ -12,7 +12,7 @@ use Rattle.readings.specs.declared.Refusal.the-variants.{Question, Room, Length
 use Rattle.readings.specs.declared.Reading.{Reading}
 use Rattle.readings.specs.declared.Reading.the-variants.{Counted, Written, Values, Refused}
 use Rattle.jobs.specs.Check.{headerIn, goodFile}
-use Rattle.jobs.proofs.Entries.{parts, header-most}
+use Rattle.jobs.proofs.Entries.{parts, header-version, header-most}
 use Rattle.letters.specs.Letters.{Heard}
 use Rattle.printing.proofs.Lengths.{longest}
 use Rattle.certificate.specs.declared.Certified.{Certified}
@@ -49,7 +49,8 @@ numbers-small (e ∷ es) (suc k) = numbers-small es k
 pub fits-every-certificate : (file : List ℕ) → goodFile file ≡ true → length (certificateOf file) ≤ mostText
 unfolding certificateOf
 fits-every-certificate file ok =
-    longest (headerIn file .n) (numbersOf (heardIn file)) (standingOf file) (omega (arith, header-most (headerIn file) (parts file ok .header)))
+    longest (headerIn file .version) (headerIn file .n) (numbersOf (heardIn file)) (standingOf file)
+    (omega (arith, header-version (headerIn file) (parts file ok .header))) (omega (arith, header-most (headerIn file) (parts file ok .header)))
     (countable file ok) (numbers-small (heardIn file))
 
 -- what is written: a good file's certificate, within the lent memory

@@ -23,7 +23,7 @@ use Rattle.certificate.specs.Telling.{ToldOne, ToldAll}
 
 -- what is left to hear from a place on
 abbrev pub heardLeft : Header → (file : List ℕ) → (at : ℕ) → List Heard
-heardLeft h file at = map (heardOf h) (entriesIn (drop at file))
+heardLeft h file at = map (heardOf h) (entriesIn (h .version) (drop at file))
 
 -- on the way: what was told, and what is left, make up the whole
 pub record Going (h : Header) (file kept : List ℕ) (told : Told) : Type 0 where
@@ -56,21 +56,21 @@ module _ (h : Header) (file kept kept′ : List ℕ) (told told′ : Told) (shor
 
   -- no job file has more than 8,191 entries
   pub room-left : told .entries < length kept
-  room-left = omega (arith, going .passed, going .room, entry-within h file at (first-good h file at here (going .good)), head-bounds .0, field-bounds .0)
+  room-left = omega (arith, going .passed, going .room, entry-within h file at (first-good h file at here (going .good)), head-bounds .0, field-bounds (h .version) .0)
 
-  left : heardLeft h file at ≡ now-heard ∷ heardLeft h file (at + sizeIn (drop at file))
-  left = ap (map (heardOf h)) (entries-here file at here)
+  left : heardLeft h file at ≡ now-heard ∷ heardLeft h file (at + sizeIn (h .version) (drop at file))
+  left = ap (map (heardOf h)) (entries-here (h .version) file at here)
 
   pub going-on : ToldOne h file told kept kept′ told′ → Going h file kept′ told′
   unfolding heardFrom
   going-on one =
-      let further = at + sizeIn (drop at file) in
+      let further = at + sizeIn (h .version) (drop at file) in
       let rest = heardLeft h file further in
       let number = numberFor now-heard in
       let more : take (told′ .entries) kept′ ≡ take (told .entries) kept ++ (number ∷ []) =
       ap₂ take (one .entries ∙ add-one (told .entries)) (one .numbers) ∙ take-suc-set kept (told .entries) number room-left in
       record {
-        passed = omega (arith, going .passed, one .at, one .entries, field-bounds .0);
+        passed = omega (arith, going .passed, one .at, one .entries, field-bounds (h .version) .0);
         within = omega (arith, one .at, entry-within h file at (first-good h file at here (going .good)));
         good =
             ap (λ (k : ℕ). goodEntries h (drop k file)) (one .at)
@@ -86,13 +86,13 @@ module _ (h : Header) (file kept kept′ : List ℕ) (told told′ : Told) (shor
       }
 
   pub going-less : ToldOne h file told kept kept′ told′ → length file - told′ .at < length file - told .at
-  going-less one = omega (arith, one .at, field-bounds .0)
+  going-less one = omega (arith, one .at, field-bounds (h .version) .0)
 
 -- nothing is left: all is told
 pub all-told : (h : Header) (file kept : List ℕ) (told : Told) → h ≡ headerIn file → length file ≤ 65536 → length file ≤ told .at → Going h file kept told → ToldAll file kept told
 unfolding heardFrom
 all-told h file kept told is short over going =
-    let none : heardLeft h file (told .at) ≡ [] = ap (map (heardOf h)) (no-more-entries file (told .at) over) in
+    let none : heardLeft h file (told .at) ≡ [] = ap (map (heardOf h)) (no-more-entries (h .version) file (told .at) over) in
     let whole : heardLeft h file headSize ≡ heardIn file = ap (λ (x : Header). heardLeft x file headSize) is in
     record {
       numbers =

@@ -1,4 +1,4 @@
--- The certificate of a job file (document 01, "Job file and certificate"): FILE, then ROOM, else exactly its text at the front of the lent
+-- The certificate of a job file (document 01, "Job file and certificate"; document 02, M-100): FILE, then ROOM, else exactly its text at the front of the lent
 -- memory, the rest as it was.
 use mathlib.Core.Path.{_≡_}
 use mathlib.Core.Bool.{cond}
@@ -18,7 +18,7 @@ use Rattle.certificate.specs.declared.Certified.the-variants.{Bytes, Fil
 
 -- the entries of a file heard, in their order
 abbrev pub heardIn : (file : List ℕ) → List Heard
-heardIn file = map (heardOf (headerIn file)) (entriesIn (drop headSize file))
+heardIn file = map (heardOf (headerIn file)) (entriesIn (headerIn file .version) (drop headSize file))
 
 -- the number of each entry: 0 for accepted
 abbrev pub numbersOf : List Heard → List ℕ
@@ -30,7 +30,7 @@ standingOf file = standingAfter (heardIn file)
 
 -- the text
 unfoldable pub certificateOf : (file : List ℕ) → List ℕ
-certificateOf file = certificateText (headerIn file .n) (numbersOf (heardIn file)) (standingOf file)
+certificateOf file = certificateText (headerIn file .version) (headerIn file .n) (numbersOf (heardIn file)) (standingOf file)
 
 -- the answer: FILE, then ROOM
 unfoldable pub certifiedOf : (file text : List ℕ) → Certified

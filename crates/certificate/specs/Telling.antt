@@ -15,9 +15,9 @@ use Rattle.certificate.specs.Certificate.{numbersOf, heardIn, standingOf
 
 -- one entry more
 pub record ToldOne (h : Header) (file : List ℕ) (told : Told) (before after : List ℕ) (r : Told) : Type 0 where
-  pub at : r .at ≡ told .at + sizeIn (drop (told .at) file)
+  pub at : r .at ≡ told .at + sizeIn (h .version) (drop (told .at) file)
   pub entries : r .entries ≡ told .entries + 1
-  pub standing : r .standing ≡ listenedTo (told .standing) (heardHere h (drop (told .at) file)) (sizeIn (drop (told .at) file)) .standing
+  pub standing : r .standing ≡ listenedTo (told .standing) (heardHere h (drop (told .at) file)) (sizeIn (h .version) (drop (told .at) file)) .standing
   pub numbers : after ≡ set before (told .entries) (numberFor (heardHere h (drop (told .at) file)))
 
 -- all entries

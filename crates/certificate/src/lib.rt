@@ -1,4 +1,4 @@
-// The certificate of a job file (document 01, "Job file and certificate"): the reader is called on each entry's question and words, its
+// The certificate of a job file (document 01, "Job file and certificate"; document 02, M-100): the reader is called on each entry's question and words, its
 // number kept, and the letters brought up to date; then all of it is printed. Of the reader only its contract is used.
 mod entries;
 
@@ -59,13 +59,19 @@ fn as_certified(printed: Printed) -> Certified
 
 fn print_told(header: Header, file: &[u8], text: &mut [u8]) -> Printed
     requires { ⌜ (goodFile (now file) ≡ true) × (header ≡ headerIn (now file)) ⌝ }
-    ensures { λ r. ⌜ PrintDone (header .n) (numbersOf (heardIn (now (file .entry)))) (standingOf (now (file .entry))) (now (text .entry)) (now (text .exit)) r ⌝ }
+    ensures { λ r. ⌜ PrintDone (header .version) (header .n) (numbersOf (heardIn (now (file .entry)))) (standingOf (now (file .entry))) (now (text .entry)) (now (text .exit)) r ⌝ }
 {
     let mut numbers = blank_numbers();
     let told = tell(header, file, &mut numbers);
     let entries = told.entries;
     let standing = told.standing;
-    print(header.n, &numbers[..entries], standing, text)
+    print(
+        header.version,
+        header.n,
+        &numbers[..entries],
+        standing,
+        text,
+    )
 }
 
 // A number for each entry.

@@ -12,15 +12,15 @@ use Rattle.jobs.proofs.Sizes.{field-bounds}
 use Rattle.jobs.proofs.Walk.{one-entry}
 
 module _ (h : Header) (P : List ℕ → Type 0) (nothing : P [])
-    (step : (front : List ℕ) → 0 < length front → goodEntry h front ≡ true → P (drop (sizeIn front) front) → P front) where
+    (step : (front : List ℕ) → 0 < length front → goodEntry h front ≡ true → P (drop (sizeIn (h .version) front) front) → P front) where
   one-step : (bytes : List ℕ) → goodEntries h bytes ≡ true
       → ((rest : List ℕ) → length rest < length bytes → goodEntries h rest ≡ true → P rest) → P bytes
   one-step [] ok shorter = nothing
   one-step (b ∷ bytes) ok shorter =
       let front = b ∷ bytes in
-      let both = sym (one-entry true (λ (f : List ℕ) (later : Bool). goodEntry h f && later) front (omega arith)) ∙ ok in
+      let both = sym (one-entry (h .version) true (λ (f : List ℕ) (later : Bool). goodEntry h f && later) front (omega arith)) ∙ ok in
       step front (omega arith) (and-left (goodEntry h front) _ both)
-      (shorter (drop (sizeIn front) front) (omega (arith, length-drop (sizeIn front) front, field-bounds .0)) (and-right (goodEntry h front) _ both))
+      (shorter (drop (sizeIn (h .version) front) front) (omega (arith, length-drop (sizeIn (h .version) front) front, field-bounds (h .version) .0)) (and-right (goodEntry h front) _ both))
 
   below : (most : ℕ) (bytes : List ℕ) → length bytes < most → goodEntries h bytes ≡ true → P bytes
   below zero bytes short ok = absurd (omega arith)

@@ -21,42 +21,43 @@ use Rattle.jobs.proofs.GoodEntry.{good}
 module _ (h : Header) (file : List ℕ) (at : ℕ) where
   -- a good entry, and the rest behind it
   pub good-here : at < length file → goodEntry h (drop at file) ≡ true
-      → goodEntries h (drop at file) ≡ goodEntries h (drop (at + sizeIn (drop at file)) file)
+      → goodEntries h (drop at file) ≡ goodEntries h (drop (at + sizeIn (h .version) (drop at file)) file)
   good-here here e =
-      walk-here true (λ (front : List ℕ) (later : Bool). goodEntry h front && later) file at here
-      ∙ ap (λ (t : Bool). t && goodEntries h (drop (at + sizeIn (drop at file)) file)) e
+      walk-here (h .version) true (λ (front : List ℕ) (later : Bool). goodEntry h front && later) file at here
+      ∙ ap (λ (t : Bool). t && goodEntries h (drop (at + sizeIn (h .version) (drop at file)) file)) e
 
   pub bad-here : at < length file → goodEntry h (drop at file) ≡ false → goodEntries h (drop at file) ≡ false
   bad-here here e =
-      walk-here true (λ (front : List ℕ) (later : Bool). goodEntry h front && later) file at here
-      ∙ ap (λ (t : Bool). t && goodEntries h (drop (at + sizeIn (drop at file)) file)) e
+      walk-here (h .version) true (λ (front : List ℕ) (later : Bool). goodEntry h front && later) file at here
+      ∙ ap (λ (t : Bool). t && goodEntries h (drop (at + sizeIn (h .version) (drop at file)) file)) e
 
   -- of good entries the first is good
   pub first-good : at < length file → goodEntries h (drop at file) ≡ true → goodEntry h (drop at file) ≡ true
   first-good here e =
-      and-left _ _ (sym (walk-here true (λ (front : List ℕ) (later : Bool). goodEntry h front && later) file at here) ∙ e)
+      and-left _ _ (sym (walk-here (h .version) true (λ (front : List ℕ) (later : Bool). goodEntry h front && later) file at here) ∙ e)
 
 pub no-more-good : (h : Header) (file : List ℕ) (at : ℕ) → length file ≤ at → goodEntries h (drop at file) ≡ true
-no-more-good h file at over = walk-over true (λ (front : List ℕ) (later : Bool). goodEntry h front && later) file at over
+no-more-good h file at over = walk-over (h .version) true (λ (front : List ℕ) (later : Bool). goodEntry h front && later) file at over
 
-pub entries-here : (file : List ℕ) (at : ℕ) → at < length file
-    → entriesIn (drop at file) ≡ entryIn (drop at file) ∷ entriesIn (drop (at + sizeIn (drop at file)) file)
-entries-here file at here = walk-here [] (λ (front : List ℕ) (later : List Entry). entryIn front ∷ later) file at here
+module _ (version : ℕ) (file : List ℕ) (at : ℕ) where
+  pub entries-here : at < length file
+      → entriesIn version (drop at file) ≡ entryIn version (drop at file) ∷ entriesIn version (drop (at + sizeIn version (drop at file)) file)
+  entries-here here = walk-here version [] (λ (front : List ℕ) (later : List Entry). entryIn version front ∷ later) file at here
 
-pub no-more-entries : (file : List ℕ) (at : ℕ) → length file ≤ at → entriesIn (drop at file) ≡ []
-no-more-entries file at over = walk-over [] (λ (front : List ℕ) (later : List Entry). entryIn front ∷ later) file at over
+  pub no-more-entries : length file ≤ at → entriesIn version (drop at file) ≡ []
+  no-more-entries over = walk-over version [] (λ (front : List ℕ) (later : List Entry). entryIn version front ∷ later) file at over
 
 -- whatever its size, an entry has 8 bytes at least
-pub few-entries : (h : Header) (bytes : List ℕ) → goodEntries h bytes ≡ true → 8 * length (entriesIn bytes) ≤ length bytes
+pub few-entries : (h : Header) (bytes : List ℕ) → goodEntries h bytes ≡ true → 8 * length (entriesIn (h .version) bytes) ≤ length bytes
 few-entries h =
-    each-entry h (λ (bytes : List ℕ). 8 * length (entriesIn bytes) ≤ length bytes) no-bytes
+    each-entry h (λ (bytes : List ℕ). 8 * length (entriesIn (h .version) bytes) ≤ length bytes) (no-bytes (h .version))
     (λ front some ok rest. omega (
       arith,
       rest,
       good h front ok .whole,
-      length-drop (sizeIn front) front,
-      field-bounds .0,
-      ap length (one-entry [] (λ (f : List ℕ) (l : List Entry). entryIn f ∷ l) front some),
+      length-drop (sizeIn (h .version) front) front,
+      field-bounds (h .version) .0,
+      ap length (one-entry (h .version) [] (λ (f : List ℕ) (l : List Entry). entryIn (h .version) f ∷ l) front some),
     ))
 
 -- ---- what a good file is made of
@@ -99,10 +100,17 @@ pub opened-good : (file : List ℕ) → goodFile file ≡ true → openedOf file
 unfolding openedOf
 opened-good file ok = ap (λ (t : Bool). cond t (opened.Job (headerIn file)) opened.File) ok
 
-pub header-most : (h : Header) → goodHeader h ≡ true → h .n ≤ 32
+pub header-version : (h : Header) → goodHeader h ≡ true → h .version ≤ 2
 unfolding goodHeader
-header-most h ok = leb-true (h .n) 32 (and-right (leb 1 (h .n)) _ (and-left _ (leb (h .alive) 1) ok))
+header-version h ok =
+    leb-true (h .version) 2 (and-right (leb 1 (h .version)) _ (and-left _ (leb 1 (h .n)) (and-left _ (leb (h .n) 32) (and-left _ (leb (h .alive) 1) ok))))
 
 pub header-least : (h : Header) → goodHeader h ≡ true → 1 ≤ h .n
 unfolding goodHeader
-header-least h ok = leb-true 1 (h .n) (and-left _ (leb (h .n) 32) (and-left _ (leb (h .alive) 1) ok))
+header-least h ok =
+    leb-true 1 (h .n) (and-right (leb 1 (h .version) && leb (h .version) 2) _ (and-left _ (leb (h .n) 32) (and-left _ (leb (h .alive) 1) ok)))
+
+pub header-most : (h : Header) → goodHeader h ≡ true → h .n ≤ 32
+unfolding goodHeader
+header-most h ok =
+    leb-true (h .n) 32 (and-right (leb 1 (h .version) && leb (h .version) 2 && leb 1 (h .n)) _ (and-left _ (leb (h .alive) 1) ok))

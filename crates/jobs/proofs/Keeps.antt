@@ -1,15 +1,16 @@
 -- THE RULES OF AN ENTRY, and the check's own test of them: an entry passes the test exactly where it keeps the rules.
-use mathlib.Core.Path.{_≡_, refl, ap₂}
-use mathlib.Core.Bool.{Bool, true, false, _&&_, _||_}
+use mathlib.Core.Path.{_≡_, refl, ap, ap₂}
+use mathlib.Core.Bool.{Bool, true, false, cond, not, _&&_, _||_}
 use mathlib.Core.Logic.{_⊎_, inl, inr, ⊎-elim}
-use Prim.Native.Nat.{ℕ, _≤_}
+use Prim.Native.Nat.{ℕ, _≤_, _<_}
 use native.Mathlib.Omega.{arith}
 use lib.Dec.{leb, eqb}
 use lib.ListN.{length}
-use borrow.Author.Tests.{le-leb, leb-true, eq-eqb, eqb-true, eqb-false}
+use borrow.Author.Tests.{le-leb, leb-true, leb-false, eq-eqb, ne-eqb, eqb-true, eqb-false, not-true}
 use Rattle.ground.proofs.Test.{and-left, and-right}
-use Rattle.questions.specs.Question.{helloAll, writeDevice, readAll, readDevice}
+use Rattle.questions.specs.Question.{helloAll, writeAll, writeDevice, readAll, readDevice}
 use Rattle.questions.proofs.ByKind.{each-kind}
+use Rattle.masks.specs.Masks.{allBits, maskKept}
 use Rattle.jobs.specs.declared.Header.{Header}
 use Rattle.jobs.specs.Format.{Entry, asked}
 use Rattle.used_fields.specs.Used.{usesAt, usesOf, unusedAreZero}
@@ -108,11 +109,70 @@ module _ (alive field : ℕ) where
       (with-seed 1 (λ is. omega (arith, is))) (with-seed 2 (λ is. omega (arith, is)))
       (with-seed 3 (λ is. omega (arith, is))) (with-seed 4 (λ is. omega (arith, is)))
 
+-- the mask, by the version
+module _ (version mask : ℕ) where
+  abbrev Unmasked : ℕ → Type 0
+  Unmasked k = (k ≡ helloAll) ⊎ (readAll ≤ k) → mask ≡ 0
+
+  abbrev Writes : ℕ → Type 0
+  Writes k = (k ≡ writeAll) ⊎ (k ≡ writeDevice)
+
+  -- a write's
+  write-passes : (mask ≡ 0 → ⊥) → (version < 2 → mask ≡ allBits) → cond (leb 2 version) (not (eqb mask 0)) (eqb mask allBits) ≡ true
+  write-passes some whole = by-test (leb 2 version) refl
+    where
+      by-test : (has : Bool) → leb 2 version ≡ has → cond has (not (eqb mask 0)) (eqb mask allBits) ≡ true
+      by-test true is = ap not (ne-eqb mask 0 some)
+      by-test false is = eq-eqb mask allBits (whole (leb-false 2 version is))
+
+  write-kept : cond (leb 2 version) (not (eqb mask 0)) (eqb mask allBits) ≡ true → (mask ≡ 0 → ⊥) × (version < 2 → mask ≡ allBits)
+  write-kept = by-test (leb 2 version) refl
+    where
+      by-test : (has : Bool) → leb 2 version ≡ has → cond has (not (eqb mask 0)) (eqb mask allBits) ≡ true → (mask ≡ 0 → ⊥) × (version < 2 → mask ≡ allBits)
+      by-test true is e = (eqb-false mask 0 (not-true (eqb mask 0) e), λ old. absurd (omega (arith, old, leb-true 2 version is)))
+      by-test false is e = let all = eqb-true mask allBits e in (λ none. omega (arith, none, all), λ old. all)
+
+  mask-kept-passes : (k : ℕ) → k ≤ 4 → Unmasked k → (Writes k → mask ≡ 0 → ⊥) → (Writes k → version < 2 → mask ≡ allBits) → maskKept version k mask ≡ true
+  unfolding maskKept
+  mask-kept-passes =
+      each-kind (λ (k : ℕ). Unmasked k → (Writes k → mask ≡ 0 → ⊥) → (Writes k → version < 2 → mask ≡ allBits) → maskKept version k mask ≡ true)
+      (λ zero some whole. eq-eqb mask 0 (zero (inl refl)))
+      (λ zero some whole. write-passes (some (inl refl)) (whole (inl refl)))
+      (λ zero some whole. write-passes (some (inr refl)) (whole (inr refl)))
+      (λ zero some whole. eq-eqb mask 0 (zero (inr (omega arith)))) (λ zero some whole. eq-eqb mask 0 (zero (inr (omega arith))))
+
+  -- what is kept
+  record MaskRules (k : ℕ) : Type 0 where
+    zero : Unmasked k
+    some : Writes k → mask ≡ 0 → ⊥
+    whole : Writes k → version < 2 → mask ≡ allBits
+
+  of-others : (k : ℕ) → (Writes k → ⊥) → eqb mask 0 ≡ true → MaskRules k
+  of-others k other e = record { zero = λ rule. eqb-true mask 0 e; some = λ writes. absurd (other writes); whole = λ writes. absurd (other writes) }
+
+  of-write : (k : ℕ) → (k ≡ helloAll → ⊥) → (readAll ≤ k → ⊥) → cond (leb 2 version) (not (eqb mask 0)) (eqb mask allBits) ≡ true → MaskRules k
+  of-write k first last e =
+      let kept = write-kept e in
+      record { zero = λ rule. absurd (⊎-elim first last rule); some = λ writes. kept .0; whole = λ writes. kept .1 }
+
+  mask-kept-rules : (k : ℕ) → k ≤ 4 → maskKept version k mask ≡ true → MaskRules k
+  unfolding maskKept
+  mask-kept-rules =
+      each-kind (λ (k : ℕ). maskKept version k mask ≡ true → MaskRules k)
+      (of-others 0 (⊎-elim (λ is. omega (arith, is)) (λ is. omega (arith, is))))
+      (of-write 1 (λ is. omega (arith, is)) (λ up. omega (arith, up)))
+      (of-write 2 (λ is. omega (arith, is)) (λ up. omega (arith, up)))
+      (of-others 3 (⊎-elim (λ is. omega (arith, is)) (λ is. omega (arith, is))))
+      (of-others 4 (⊎-elim (λ is. omega (arith, is)) (λ is. omega (arith, is))))
+
 -- ---- the entry
 
 module _ (h : Header) (e : Entry) where
   abbrev on : Bool
   on = eqb (h .alive) 1
+
+  pub mask-passes : Keeps h e → maskKept (h .version) (e .kind) (e .mask) ≡ true
+  mask-passes rules = mask-kept-passes (h .version) (e .mask) (e .kind) (rules .kind) (rules .mask) (rules .masked) (rules .whole)
 
   pub keeps-passes : Keeps h e → keepsRules h e ≡ true
   unfolding keepsRules unusedAreZero usesOf
@@ -122,23 +182,30 @@ module _ (h : Header) (e : Entry) where
       let value = value-passes on (e .value) k (rules .kind) (rules .value) in
       let device = device-passes on (e .device) k (rules .kind) (rules .device) in
       let seed = seed-passes (h .alive) (e .seed) k (rules .kind) (rules .seed) in
-      and-both _ _ (and-both _ _ (le-leb (length (e .words)) 140 (rules .words)) (le-leb k 4 (rules .kind)))
-      (and-both _ _ (and-both _ _ (and-both _ _ register value) device) seed)
+      and-both _ _
+      (and-both _ _ (and-both _ _ (le-leb (length (e .words)) 140 (rules .words)) (le-leb k 4 (rules .kind)))
+      (and-both _ _ (and-both _ _ (and-both _ _ register value) device) seed))
+      (mask-passes rules)
 
   pub passes-keeps : keepsRules h e ≡ true → Keeps h e
   unfolding keepsRules unusedAreZero usesOf
   passes-keeps ok =
       let k = e .kind in
-      let few : k ≤ 4 = leb-true k 4 (and-right (leb (length (e .words)) 140) _ (and-left _ _ ok)) in
+      let three = and-left _ (maskKept (h .version) k (e .mask)) ok in
+      let few : k ≤ 4 = leb-true k 4 (and-right (leb (length (e .words)) 140) _ (and-left _ _ three)) in
       let uses = usesAt k on in
-      let fields = and-right (leb (length (e .words)) 140 && leb k 4) _ ok in
+      let fields = and-right (leb (length (e .words)) 140 && leb k 4) _ three in
       let first = and-left _ _ fields in
       let two = and-left _ _ first in
+      let mask = mask-kept-rules (h .version) (e .mask) k few (and-right (leb (length (e .words)) 140 && leb k 4 && unusedAreZero (asked h e)) _ ok) in
       record {
-        words = leb-true (length (e .words)) 140 (and-left _ _ (and-left _ _ ok));
+        words = leb-true (length (e .words)) 140 (and-left _ _ (and-left _ _ three));
         kind = few;
         register = register-kept on (e .reg) k few (and-left _ _ two);
         value = value-kept on (e .value) k few (and-right (uses .register || eqb (e .reg) 0) _ two);
+        mask = mask .zero;
+        masked = mask .some;
+        whole = mask .whole;
         device = device-kept on (e .device) k few (and-right ((uses .register || eqb (e .reg) 0) && (uses .value || eqb (e .value) 0)) _ first);
         seed = seed-kept (h .alive) (e .seed) k few
             (and-right ((uses .register || eqb (e .reg) 0) && (uses .value || eqb (e .value) 0) && (uses .device || eqb (e .device) 0)) _ fields);

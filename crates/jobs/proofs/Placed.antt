@@ -17,7 +17,7 @@ use Rattle.jobs.specs.declared.Opened.{Opened}
 use Rattle.jobs.specs.declared.Next.{Next}
 use Rattle.jobs.specs.declared.Next.the-variants as next
 use Rattle.jobs.specs.Format.{fieldSize}
-use Rattle.jobs.specs.Check.{wordsIn, sizeIn, entryIn, askedIn, goodEntry, placedIn, nextIn, nextOf, goodFile, openedOf}
+use Rattle.jobs.specs.Check.{wordsIn, sizeIn, maskIn, entryIn, askedIn, goodEntry, placedIn, nextIn, nextOf, goodFile, openedOf}
 use Rattle.jobs.proofs.Opened as opened-file
 use Rattle.jobs.proofs.Next as next-entry
 use Rattle.jobs.proofs.Sizes.{field-bounds}
@@ -42,7 +42,7 @@ module _ (h : Header) (file : List ℕ) (at : ℕ) (this-good : goodEntry h (dro
   pub found : nextOf h file (record { at = at }) ≡ placedIn h at (drop at file)
   unfolding nextOf
   found =
-      next-is h (drop at file) at (omega (arith, good h (drop at file) this-good .whole, field-bounds .0))
+      next-is h (drop at file) at (omega (arith, good h (drop at file) this-good .whole, field-bounds (h .version) .0))
       ∙ ap (λ (t : Bool). cond t (placedIn h at (drop at file)) next.File) this-good
 
   -- so that the other answers do not come
@@ -51,8 +51,13 @@ module _ (h : Header) (file : List ℕ) (at : ℕ) (this-good : goodEntry h (dro
 
   -- and the one that comes is the entry in its place
   pub record Placed (e : EntryAt) (c : Cursor) : Type 0 where
-    pub entry : e ≡ record { question = askedIn h (drop at file); start = at + fieldSize; words = wordsIn (drop at file) }
-    pub after : c .at ≡ at + sizeIn (drop at file)
+    pub entry : e ≡ record {
+      question = askedIn h (drop at file);
+      mask = maskIn (h .version) (drop at file);
+      start = at + fieldSize (h .version);
+      words = wordsIn (h .version) (drop at file);
+    }
+    pub after : c .at ≡ at + sizeIn (h .version) (drop at file)
 
   pub placed : (r : Next) (e : EntryAt) (c : Cursor) → r ≡ nextOf h file (record { at = at }) → r ≡ next.Entry e c → Placed e c
   placed r e c says is = by (sym is ∙ says ∙ found)
@@ -60,15 +65,15 @@ module _ (h : Header) (file : List ℕ) (at : ℕ) (this-good : goodEntry h (dro
       by : next.Entry e c ≡ placedIn h at (drop at file) → Placed e c
       by same = record { entry = cc; after = ap (λ (x : Cursor). x .at) cc }
 
-  pub entry-words : wordsIn (drop at file) ≤ 140
+  pub entry-words : wordsIn (h .version) (drop at file) ≤ 140
   entry-words = good h (drop at file) this-good .words
 
-  pub entry-within : at + sizeIn (drop at file) ≤ length file
-  entry-within = omega (arith, good h (drop at file) this-good .whole, length-drop at file, field-bounds .0)
+  pub entry-within : at + sizeIn (h .version) (drop at file) ≤ length file
+  entry-within = omega (arith, good h (drop at file) this-good .whole, length-drop at file, field-bounds (h .version) .0)
 
   -- the words behind its fields
-  pub words-there : wordsOf (take (2 * wordsIn (drop at file)) (drop (at + fieldSize) file)) ≡ entryIn (drop at file) .words
-  words-there = ap (λ (l : List ℕ). wordsOf (take (2 * wordsIn (drop at file)) l)) (sym (drop-drop fieldSize at file))
+  pub words-there : wordsOf (take (2 * wordsIn (h .version) (drop at file)) (drop (at + fieldSize (h .version)) file)) ≡ entryIn (h .version) (drop at file) .words
+  words-there = ap (λ (l : List ℕ). wordsOf (take (2 * wordsIn (h .version) (drop at file)) l)) (sym (drop-drop (fieldSize (h .version)) at file))
 
 -- a file that is turned away
 pub no-job : (file : List ℕ) (r : Opened) → r ≡ openedOf file → OneOf (1 ∷ []) (tagOf opened-file.the-type r) → goodFile file ≡ false

@@ -1,4 +1,4 @@
-// Job files (document 01, "Job file and certificate"): what one is made of, and its entries one after the other, read where they stand in
+// Job files (document 01, "Job file and certificate"; document 02, M-100): what one is made of, and its entries one after the other, read where they stand in
 // the lent file with a cursor that goes by value.
 pub mod entry;
 
@@ -9,8 +9,9 @@ ghost use mathlib.Core.Path.{_≡_};
 ghost use Rattle.jobs.specs.Format.{headSize, fieldSize};
 ghost use Rattle.jobs.specs.Check.{nextOf};
 
-// How many devices the chain has, and whether the alive byte is on.
+// The file's version, how many devices the chain has, and whether the alive byte is on.
 pub struct Header {
+    pub version: u16,
     pub n: u8,
     pub alive: u8,
 }
@@ -20,9 +21,10 @@ pub struct Cursor {
     pub at: usize,
 }
 
-// An entry where it stands: its question, and the place and the number of its answer's words.
+// An entry where it stands: its question, the bits that a write is expected to show, and the place and the number of its answer's words.
 pub struct EntryAt {
     pub question: Question,
+    pub mask: u16,
     pub start: usize,
     pub words: usize,
 }
@@ -55,10 +57,10 @@ pub fn first() -> Cursor
 }
 
 // How many bytes an entry has in front of its words.
-pub fn field_size() -> usize
-    ensures { λ r. ⌜ r ≡ fieldSize ⌝ }
+pub fn field_size(version: u16) -> usize
+    ensures { λ r. ⌜ r ≡ fieldSize version ⌝ }
 {
-    8
+    if version < 2 { 8 } else { 10 }
 }
 
 // The entry at a cursor.

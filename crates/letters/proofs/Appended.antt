@@ -8,4 +8,4 @@ use Rattle.letters.specs.declared.Standing.{Standing}
 pub heard-append : (s : Standing) (xs ys : List Heard) → heardFrom s (xs ++ ys) ≡ heardFrom (heardFrom s xs) ys
 unfolding heardFrom
 heard-append s [] ys = refl
-heard-append s (x ∷ xs) ys = heard-append (hearOf s (x .question) (x .reading) (x .values)) xs ys
+heard-append s (x ∷ xs) ys = heard-append (hearOf s (x .question) (x .mask) (x .reading) (x .values)) xs ys

@@ -17,10 +17,10 @@ use Rattle.questions.specs.declared.question.Question.{Question}
 use Rattle.letters.specs.Letters.{valueFor, decides, verdict, letterAfter}
 use Rattle.letters.proofs.Between.{from, upto, decides-between, decides-only-between}
 
-module _ (write q : Question) (values old : List ℕ) where
+module _ (write : Question) (mask : ℕ) (q : Question) (values old : List ℕ) where
   -- the letters by their rule, from those that stood
   abbrev rule : ℕ → ℕ
-  rule a = letterAfter write q a values (getD old a 0)
+  rule a = letterAfter write mask q a values (getD old a 0)
 
   -- a device that the read does not decide keeps its letter
   keeps : (a : ℕ) → decides write q a ≡ false → rule a ≡ getD old a 0
@@ -41,7 +41,7 @@ module _ (write q : Question) (values old : List ℕ) where
       (λ below. sym (keeps-outside a h (λ low high. omega arith)), λ above. refl)
 
   pub one-more : (letters : List ℕ) (at letter : ℕ) → q .reg ≡ write .reg → from write q ≤ at → at < upto write q → length letters ≡ 32
-      → letter ≡ verdict (valueFor q at values) (write .value) → SoFar letters at → SoFar (set letters at letter) (at + 1)
+      → letter ≡ verdict mask (valueFor q at values) (write .value) → SoFar letters at → SoFar (set letters at letter) (at + 1)
   unfolding letterAfter
   one-more letters at letter same low high long is so-far a h = (
     λ below. ⊎-elim (λ lower. other (λ e. omega arith) ∙ so-far a h .0 lower) (λ reached. here (omega arith)) (below-or-not a at),

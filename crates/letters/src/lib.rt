@@ -1,10 +1,11 @@
-// The letters of a certificate (document 01, "Job file and certificate"): for each device that the last good write covers, whether an
-// accepted read after it showed the value written. One step an entry, on a small standing state that goes in and comes back by value.
+// The letters of a certificate (document 01, "Job file and certificate"; document 02, M-100): for each device that the last good write covers,
+// whether an accepted read after it showed the value written, in the bits of the write's mask. One step an entry, on a small standing state
+// that goes in and comes back by value.
+use masks::is_write;
 use questions::question::HELLOALL;
 use questions::question::Question;
 use questions::question::READALL;
 use questions::question::WRITEALL;
-use questions::question::WRITEDEVICE;
 use questions::question::ask;
 use questions::question::is_good;
 use readings::Reading;
@@ -22,9 +23,10 @@ pub const OTHER: u8 = 0x4F;
 
 pub const UNHEARD: u8 = 0x55;
 
-// The last good write, or where there was none yet a question that covers no device; and a letter for each of 32 devices.
+// The last good write with its mask, or where there was none yet a question that covers no device; and a letter for each of 32 devices.
 pub struct Standing {
     pub write: Question,
+    pub mask: u16,
     pub letters: [u8; 32],
 }
 
@@ -32,16 +34,22 @@ pub struct Standing {
 pub fn begin() -> Standing
     ensures { λ r. ⌜ r ≡ begun ⌝ }
 {
-    all_unheard(ask(HELLOALL, 0, 0, 0, 0, 0, 0))
+    all_unheard(ask(HELLOALL, 0, 0, 0, 0, 0, 0), 0)
 }
 
-// One entry: its question, what the reader said of its answer, and the values handed out. A good write starts all its devices anew; an
-// accepted read decides; anything else leaves the letters as they stand.
-pub fn hear(standing: Standing, q: Question, reading: Reading, values: &[u16]) -> Standing
-    ensures { λ r. ⌜ r ≡ hearOf standing q reading (now (values .entry)) ⌝ }
+// One entry: its question and mask, what the reader said of its answer, and the values handed out. A good write starts all its devices anew,
+// and its mask is the one that counts; an accepted read decides; anything else leaves the letters as they stand.
+pub fn hear(
+    standing: Standing,
+    q: Question,
+    mask: u16,
+    reading: Reading,
+    values: &[u16],
+) -> Standing
+    ensures { λ r. ⌜ r ≡ hearOf standing q mask reading (now (values .entry)) ⌝ }
 {
     if is_good_write(q) {
-        return all_unheard(q);
+        return all_unheard(q, mask);
     }
     let Reading::Values(_) = reading else {
         return standing;
@@ -49,11 +57,12 @@ pub fn hear(standing: Standing, q: Question, reading: Reading, values: &[u16]) -
     decide(standing, q, values)
 }
 
-fn all_unheard(write: Question) -> Standing
-    ensures { λ r. ⌜ r ≡ unheard write ⌝ }
+fn all_unheard(write: Question, mask: u16) -> Standing
+    ensures { λ r. ⌜ r ≡ unheard write mask ⌝ }
 {
     Standing {
         write,
+        mask,
         letters: [UNHEARD; 32],
     }
 }
@@ -61,10 +70,7 @@ fn all_unheard(write: Question) -> Standing
 fn is_good_write(q: Question) -> bool
     ensures { λ r. ⌜ r ≡ isGoodWrite q ⌝ }
 {
-    if q.kind == WRITEALL {
-        return is_good(q);
-    }
-    if q.kind == WRITEDEVICE {
+    if is_write(q.kind) {
         return is_good(q);
     }
     false
@@ -81,11 +87,15 @@ fn value_for(q: Question, device: usize, values: &[u16]) -> u16
     }
 }
 
-// S where the value is the one written, else O.
-fn verdict_of(value: u16, written: u16) -> u8
-    ensures { λ r. ⌜ r ≡ verdict value written ⌝ }
+// S where the value is the one written in the bits of the mask, else O.
+fn verdict_of(mask: u16, value: u16, written: u16) -> u8
+    ensures { λ r. ⌜ r ≡ verdict mask value written ⌝ }
 {
-    if value == written { SAME } else { OTHER }
+    if value & mask == written & mask {
+        SAME
+    } else {
+        OTHER
+    }
 }
 
 // An accepted read of the written register decides the devices that both it and the write cover, and looks at no other.
@@ -93,6 +103,7 @@ fn decide(standing: Standing, q: Question, values: &[u16]) -> Standing
     ensures { λ r. ⌜ r ≡ decided standing q (now (values .entry)) ⌝ }
 {
     let write = standing.write;
+    let mask = standing.mask;
     if q.reg != write.reg {
         return standing;
     }
@@ -102,10 +113,14 @@ fn decide(standing: Standing, q: Question, values: &[u16]) -> Standing
     let end = least(32, least(asked.end, written.end));
     let mut at = most(asked.first, written.first);
     while at < end {
-        letters[at] = verdict_of(value_for(q, at, values), write.value);
+        letters[at] = verdict_of(mask, value_for(q, at, values), write.value);
         at += 1;
     }
-    Standing { write, letters }
+    Standing {
+        write,
+        mask,
+        letters,
+    }
 }
 
 // The devices that a question covers stand together: the first of them, and the one behind the last.

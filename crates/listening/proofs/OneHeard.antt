@@ -35,10 +35,10 @@ values-read q line room =
     let values = valuesOn line (valuesTaken (judgeOf q line 32)) in
     take-at values (drop (length values) room) (valuesTaken (judgeOf q line 32)) (handed-number q line 32)
 
-pub heard-is : (s after : Standing) (q : Question) (line line′ room room′ : List ℕ) (reading : Reading) (taken number size : ℕ) (accepted : Bool)
+pub heard-is : (s after : Standing) (q : Question) (mask : ℕ) (line line′ room room′ : List ℕ) (reading : Reading) (taken number size : ℕ) (accepted : Bool)
     → line′ ≡ line → length room ≡ 32 → ReadDone q line′ room room′ reading → taken ≡ valuesTaken reading → number ≡ numberOf reading → accepted ≡ isValues reading
-    → after ≡ hearOf s q reading (take taken room′) → _≡_ {A = Listened} (record { number = number; standing = after; question = q; accepted = accepted; size = size }) (listenedTo s (heardAs q line) size)
-heard-is s after q line line′ room room′ reading taken number size accepted same room-size done count is values-are next =
+    → after ≡ hearOf s q mask reading (take taken room′) → _≡_ {A = Listened} (record { number = number; standing = after; question = q; accepted = accepted; size = size }) (listenedTo s (heardAs q mask line) size)
+heard-is s after q mask line line′ room room′ reading taken number size accepted same room-size done count is values-are next =
     let says : reading ≡ judgeOf q line 32 = done .says ∙ ap₂ (λ (l : List ℕ) (n : ℕ). judgeOf q l n) same room-size in
     let m = valuesTaken (judgeOf q line 32) in
     let many : taken ≡ m = count ∙ ap valuesTaken says in
@@ -47,4 +47,4 @@ heard-is s after q line line′ room room′ reading taken number size accepted 
     let values : take taken room′ ≡ valuesOn line m = ap₂ take many leaves ∙ values-read q line room in
     ap₂ (λ (n : ℕ) (b : Bool). record { number = n; standing = after; question = q; accepted = b; size = size }) (is ∙ ap numberOf says) (values-are ∙ ap isValues says)
     ∙ ap (λ (t : Standing). record { number = numberOf (judgeOf q line 32); standing = t; question = q; accepted = isValues (judgeOf q line 32); size = size })
-    (next ∙ ap₂ (λ (r : Reading) (v : List ℕ). hearOf s q r v) says values)
+    (next ∙ ap₂ (λ (r : Reading) (v : List ℕ). hearOf s q mask r v) says values)

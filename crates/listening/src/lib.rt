@@ -1,4 +1,4 @@
-// One entry of a job file heard (document 01, "Job file and certificate"): the reader is asked of its question and words, and the letters are
+// One entry of a job file heard (document 01, "Job file and certificate"; document 02, M-100): the reader is asked of its question and words, and the letters are
 // brought up to date. Of the reader only its contract is used.
 use jobs::Cursor;
 use jobs::EntryAt;
@@ -59,7 +59,7 @@ fn hear_nothing(standing: Standing) -> Listened
 // The reader is asked, with room for the values of 32 devices.
 fn hear_entry(front: &[u8], entry: EntryAt, standing: Standing) -> Listened
     requires { ⌜ (entry .words ≤ 140) × (entry .start + 2 * entry .words ≤ length (now front)) ⌝ }
-    ensures { λ r. ⌜ r ≡ listenedTo standing (heardAs (entry .question) (wordsOf (take (2 * entry .words) (drop (entry .start) (now (front .entry)))))) (entry .start + 2 * entry .words) ⌝ }
+    ensures { λ r. ⌜ r ≡ listenedTo standing (heardAs (entry .question) (entry .mask) (wordsOf (take (2 * entry .words) (drop (entry .start) (now (front .entry)))))) (entry .start + 2 * entry .words) ⌝ }
 {
     let q = entry.question;
     let words = entry.words;
@@ -70,7 +70,7 @@ fn hear_entry(front: &[u8], entry: EntryAt, standing: Standing) -> Listened
     let mut values = blank_values();
     let reading = read(q, &line[..words], &mut values);
     let taken = values_taken(reading);
-    let after = hear(standing, q, reading, &values[..taken]);
+    let after = hear(standing, q, entry.mask, reading, &values[..taken]);
     let number = number_of(reading);
     Listened {
         number,

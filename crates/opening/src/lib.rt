@@ -1,5 +1,5 @@
-// A job file looked through as a whole (document 01, "Job file and certificate"): its length, the mark and the version, a header that keeps its
-// rules, and nothing but good entries behind it.
+// A job file looked through as a whole (document 01, "Job file and certificate"; document 02, M-100): its length, the mark, a header that keeps its
+// rules, the version among them, and nothing but good entries behind it.
 use jobs::Header;
 use jobs::Opened;
 use jobs::entry::is_good_entry;
@@ -11,7 +11,7 @@ ghost use Prim.Native.Nat.{_≤_};
 ghost use lib.ListN.{length, drop};
 ghost use Rattle.jobs.specs.Format.{headSize};
 ghost use Rattle.jobs.specs.Rules.{goodHeader};
-ghost use Rattle.jobs.specs.Check.{marked, goodEntries, openedOf};
+ghost use Rattle.jobs.specs.Check.{marked, headerIn, goodEntries, openedOf};
 
 // The whole file looked through: FILE is given exactly where it is no job file.
 pub fn open(file: &[u8]) -> Opened
@@ -26,10 +26,7 @@ pub fn open(file: &[u8]) -> Opened
     if !is_marked(file) {
         return Opened::File;
     }
-    let header = Header {
-        n: file[5],
-        alive: file[6],
-    };
+    let header = header_in(file);
     if !is_good_header(header) {
         return Opened::File;
     }
@@ -39,9 +36,9 @@ pub fn open(file: &[u8]) -> Opened
     Opened::Job(header)
 }
 
-// The mark BMC, and version 1.
+// The mark BMC.
 fn is_marked(file: &[u8]) -> bool
-    requires { ⌜ 5 ≤ length (now file) ⌝ }
+    requires { ⌜ 3 ≤ length (now file) ⌝ }
     ensures { λ r. ⌜ r ≡ marked (now (file .entry)) ⌝ }
 {
     if file[0] != 0x42 {
@@ -50,15 +47,30 @@ fn is_marked(file: &[u8]) -> bool
     if file[1] != 0x4D {
         return false;
     }
-    if file[2] != 0x43 {
-        return false;
+    file[2] == 0x43
+}
+
+fn header_in(file: &[u8]) -> Header
+    requires { ⌜ 7 ≤ length (now file) ⌝ }
+    ensures { λ r. ⌜ r ≡ headerIn (now (file .entry)) ⌝ }
+{
+    let version = join(file[3], file[4]);
+    Header {
+        version,
+        n: file[5],
+        alive: file[6],
     }
-    join(file[3], file[4]) == 1
 }
 
 fn is_good_header(header: Header) -> bool
     ensures { λ r. ⌜ r ≡ goodHeader header ⌝ }
 {
+    if header.version < 1 {
+        return false;
+    }
+    if 2 < header.version {
+        return false;
+    }
     if header.n < 1 {
         return false;
     }
@@ -78,7 +90,7 @@ fn are_good_entries(header: Header, file: &[u8]) -> bool
         if !is_good_entry(header, &file[at..]) {
             return false;
         }
-        at = at + size_in(&file[at..]);
+        at = at + size_in(header.version, &file[at..]);
     }
     true
 }

@@ -8,5 +8,5 @@ pub print-settled : Settled print.Post
 print-settled l given r r′ left left′ p q = p .says ∙ sym (q .says)
 
 -- the lent text
-pub print-settled-text : SettledIn (λ l left. now (left .1 .1 .1 .0)) print.Post
+pub print-settled-text : SettledIn (λ l left. now (left .1 .1 .1 .1 .0)) print.Post
 print-settled-text l given r r′ left left′ p q = p .leaves ∙ sym (q .leaves)

@@ -11,7 +11,7 @@ use borrow.Author.Tests.{lt-leb}
 use Rattle.questions.specs.Question.{covers}
 use Rattle.questions.specs.declared.question.Question.{Question}
 use Rattle.letters.specs.declared.Standing.{Standing}
-use Rattle.printing.specs.Text.{figure, decimal, headLine, entryLine, deviceLine, firstLines, entryLines, deviceLineIf, deviceLines, certificateText}
+use Rattle.printing.specs.Text.{space, figure, decimal, numbersLine, headLine, entryLine, deviceLine, firstLines, entryLines, deviceLineIf, deviceLines, certificateText}
 use Rattle.printing.specs.Print.{mostEntries}
 
 -- ---- numbers
@@ -38,26 +38,40 @@ decimal-most v = omega (arith, length-decimal v, figure-most 10000 v, figure-mos
 pub decimal-four : (v : ℕ) → v < 10000 → length (decimal v) ≤ 4
 decimal-four v low = omega (arith, length-decimal v, figure-none 10000 v low, figure-most 1000 v, figure-most 100 v, figure-most 10 v)
 
+pub decimal-one : (v : ℕ) → v < 10 → length (decimal v) ≤ 1
+decimal-one v low =
+    omega (
+      arith,
+      length-decimal v,
+      figure-none 10000 v (omega arith),
+      figure-none 1000 v (omega arith),
+      figure-none 100 v (omega arith),
+      figure-none 10 v low,
+    )
+
 pub decimal-two : (v : ℕ) → v < 100 → length (decimal v) ≤ 2
 decimal-two v low =
     omega (arith, length-decimal v, figure-none 10000 v (omega arith), figure-none 1000 v (omega arith), figure-none 100 v low, figure-most 10 v)
 
 -- ---- lines
 
-pub length-head : (n : ℕ) → length (headLine n) ≡ length (decimal n) + 7
+length-numbers : (mark : List ℕ) (a b : ℕ) → length (numbersLine mark a b) ≡ length mark + length (decimal a) + length (decimal b) + 2
+length-numbers mark a b = simp length-append (omega arith)
+
+pub length-head : (version n : ℕ) → length (headLine version n) ≡ length (decimal version) + length (decimal n) + 6
 unfolding headLine
-length-head n = simp length-append (omega arith)
+length-head version n = omega (arith, length-numbers (0x42 ∷ 0x4D ∷ 0x43 ∷ space ∷ []) version n)
 
 pub length-entry : (i r : ℕ) → length (entryLine i r) ≡ length (decimal i) + length (decimal r) + 4
 unfolding entryLine
-length-entry i r = simp length-append (omega arith)
+length-entry i r = omega (arith, length-numbers (0x45 ∷ space ∷ []) i r)
 
 pub length-device : (a letter : ℕ) → length (deviceLine a letter) ≡ length (decimal a) + 5
 unfolding deviceLine
 length-device a letter = simp length-append (omega arith)
 
-pub head-most : (n : ℕ) → length (headLine n) ≤ 12
-head-most n = omega (arith, length-head n, decimal-most n)
+pub head-most : (version n : ℕ) → length (headLine version n) ≤ 16
+head-most version n = omega (arith, length-head version n, decimal-most version, decimal-most n)
 
 pub entry-most : (i r : ℕ) → length (entryLine i r) ≤ 14
 entry-most i r = omega (arith, length-entry i r, decimal-most i, decimal-most r)
@@ -96,17 +110,18 @@ pub devices-most : (write : Question) (letters : List ℕ) (k : ℕ) → length 
 devices-most write letters k =
     lines-most (deviceAt write letters) 10 k (λ a lower. device-if-most write a (getD letters a 0) 10 (device-most a (getD letters a 0)))
 
--- with numbers of at most two figures: 9 for the head, 10 for each of 8,191 entries, 7 for each of 32 devices
-pub longest : (n : ℕ) (numbers : List ℕ) (s : Standing) → n < 100 → length numbers ≤ mostEntries → ((k : ℕ) → getD numbers k 0 < 100)
-    → length (certificateText n numbers s) ≤ 82143
+-- with a version of one figure and numbers of at most two: 9 for the head, 10 for each of 8,191 entries, 7 for each of 32 devices
+pub longest : (version n : ℕ) (numbers : List ℕ) (s : Standing) → version < 10 → n < 100 → length numbers ≤ mostEntries → ((k : ℕ) → getD numbers k 0 < 100)
+    → length (certificateText version n numbers s) ≤ 82143
 unfolding certificateText
-longest n numbers s few fits small =
+longest version n numbers s early few fits small =
     let letter : ℕ → ℕ = λ a. getD (s .letters) a 0 in
     omega (
       arith,
-      length-append (headLine n) (entryLines numbers ++ deviceLines s),
+      length-append (headLine version n) (entryLines numbers ++ deviceLines s),
       length-append (entryLines numbers) (deviceLines s),
-      length-head n,
+      length-head version n,
+      decimal-one version early,
       decimal-two n few,
       lines-most (entryAt numbers) 10 (length numbers) (λ k lower. entry-ten (k + 1) (getD numbers k 0) (omega arith) (small k)),
       lines-most (deviceAt (s .write) (s .letters)) 7 32 (λ a lower. device-if-most (s .write) a (letter a) 7 (device-seven a (letter a) (omega arith))),

@@ -13,31 +13,31 @@ use Rattle.printing.specs.Print.{mostEntries, printedOf, printedNumber, 
 use Rattle.printing.specs.declared.Printed.{Printed}
 use Rattle.printing.specs.declared.Printed.the-variants.{Bytes, Many, Room}
 
-module _ (n : ℕ) (numbers : List ℕ) (s : Standing) (text : List ℕ) where
+module _ (version n : ℕ) (numbers : List ℕ) (s : Standing) (text : List ℕ) where
   -- the lent memory by the answer
   abbrev left : Printed → List ℕ
-  left r = leftBy (printedNumber r) (atFront (certificateText n numbers s) text) text
+  left r = leftBy (printedNumber r) (atFront (certificateText version n numbers s) text) text
 
-  pub too-many : mostEntries < length numbers → PrintDone n numbers s text text Many
+  pub too-many : mostEntries < length numbers → PrintDone version n numbers s text text Many
   unfolding printedOf
   too-many many =
-      let says : Many ≡ printedOf n numbers s text = simp (lt-leb (length numbers) mostEntries many) in
+      let says : Many ≡ printedOf version n numbers s text = simp (lt-leb (length numbers) mostEntries many) in
       record { says = says; leaves = ap left says }
 
   module _ (few : length numbers ≤ mostEntries) where
-    pub no-room : length text < length (certificateText n numbers s) → PrintDone n numbers s text text Room
+    pub no-room : length text < length (certificateText version n numbers s) → PrintDone version n numbers s text text Room
     unfolding printedOf
     no-room short =
         let fits = le-leb (length numbers) mostEntries few in
-        let says : Room ≡ printedOf n numbers s text = simp (fits, lt-leb (length (certificateText n numbers s)) (length text) short) in
+        let says : Room ≡ printedOf version n numbers s text = simp (fits, lt-leb (length (certificateText version n numbers s)) (length text) short) in
         record { says = says; leaves = ap left says }
 
-    pub printed : {after : List ℕ} {end : ℕ} → length (certificateText n numbers s) ≤ length text
-        → StoredAt text 0 (certificateText n numbers s) after end → PrintDone n numbers s text after (Bytes end)
+    pub printed : {after : List ℕ} {end : ℕ} → length (certificateText version n numbers s) ≤ length text
+        → StoredAt text 0 (certificateText version n numbers s) after end → PrintDone version n numbers s text after (Bytes end)
     unfolding printedOf
     printed {end = end} enough laid =
-        let whole = certificateText n numbers s in
+        let whole = certificateText version n numbers s in
         let fits = le-leb (length numbers) mostEntries few in
         let room = le-leb (length whole) (length text) enough in
-        let says : Bytes end ≡ printedOf n numbers s text = simp (fits, room) (ap Bytes (laid .up ∙ zero-add (length whole))) in
+        let says : Bytes end ≡ printedOf version n numbers s text = simp (fits, room) (ap Bytes (laid .up ∙ zero-add (length whole))) in
         record { says = says; leaves = laid .leaves ∙ sets-front whole text enough ∙ ap left says }

@@ -17,10 +17,10 @@ abbrev pub mostEntries : ℕ
 mostEntries = 8191
 
 -- the answer: more entries than a file can have, then ROOM
-unfoldable pub printedOf : (n : ℕ) (numbers : List ℕ) → Standing → (text : List ℕ) → Printed
-printedOf n numbers s text =
+unfoldable pub printedOf : (version n : ℕ) (numbers : List ℕ) → Standing → (text : List ℕ) → Printed
+printedOf version n numbers s text =
     cond (leb (length numbers) mostEntries)
-    (cond (leb (length (certificateText n numbers s)) (length text)) (Bytes (length (certificateText n numbers s))) Room)
+    (cond (leb (length (certificateText version n numbers s)) (length text)) (Bytes (length (certificateText version n numbers s))) Room)
     Many
 
 -- document 01's number of an answer: no job file has more entries, so that too many are FILE
@@ -30,9 +30,9 @@ printedNumber Many = 14
 printedNumber Room = 2
 
 -- what `print` says and leaves
-pub record PrintDone (n : ℕ) (numbers : List ℕ) (s : Standing) (before after : List ℕ) (r : Printed) : Type 0 where
-  pub says : r ≡ printedOf n numbers s before
-  pub leaves : after ≡ leftBy (printedNumber (printedOf n numbers s before)) (atFront (certificateText n numbers s) before) before
+pub record PrintDone (version n : ℕ) (numbers : List ℕ) (s : Standing) (before after : List ℕ) (r : Printed) : Type 0 where
+  pub says : r ≡ printedOf version n numbers s before
+  pub leaves : after ≡ leftBy (printedNumber (printedOf version n numbers s before)) (atFront (certificateText version n numbers s) before) before
 
 -- bytes stored from a place on, as far as there is room, and counted
 pub record StoredAt (before : List ℕ) (at : ℕ) (bytes after : List ℕ) (end : ℕ) : Type 0 where

@@ -1,5 +1,5 @@
--- The certificate's text in ASCII (document 01, "Job file and certificate"): `BMC 1 n`, then `E i r` for each entry, i from 1, then `D a v`
--- for each covered device in address order. Every line ends in a line feed, the last one too.
+-- The certificate's text in ASCII (document 01, "Job file and certificate"; document 02, M-100): `BMC`, the file's version and n, then `E i r`
+-- for each entry, i from 1, then `D a v` for each covered device in address order. Every line ends in a line feed, the last one too.
 use mathlib.Core.Bool.{cond}
 use mathlib.Core.List.{List, [], _∷_, _++_}
 use Prim.Native.Nat.{ℕ, zero, suc, _+_, _/_, _%_}
@@ -23,13 +23,17 @@ figure worth v = cond (leb worth v) ((0x30 + v / worth % 10) ∷ []) []
 unfoldable pub decimal : ℕ → List ℕ
 decimal v = figure 10000 v ++ (figure 1000 v ++ (figure 100 v ++ (figure 10 v ++ ((0x30 + v % 10) ∷ []))))
 
--- BMC 1 n
-unfoldable pub headLine : (n : ℕ) → List ℕ
-headLine n = 0x42 ∷ 0x4D ∷ 0x43 ∷ space ∷ 0x31 ∷ space ∷ (decimal n ++ (lineFeed ∷ []))
+-- a line's mark, and two numbers with a space between them
+abbrev pub numbersLine : (mark : List ℕ) → (a b : ℕ) → List ℕ
+numbersLine mark a b = mark ++ (decimal a ++ (space ∷ (decimal b ++ (lineFeed ∷ []))))
+
+-- BMC 1 n, or BMC 2 n: the file's version, and the chain's n
+unfoldable pub headLine : (version n : ℕ) → List ℕ
+headLine version n = numbersLine (0x42 ∷ 0x4D ∷ 0x43 ∷ space ∷ []) version n
 
 -- E i r
 unfoldable pub entryLine : (i r : ℕ) → List ℕ
-entryLine i r = 0x45 ∷ space ∷ (decimal i ++ (space ∷ (decimal r ++ (lineFeed ∷ []))))
+entryLine i r = numbersLine (0x45 ∷ space ∷ []) i r
 
 -- D a v
 unfoldable pub deviceLine : (a letter : ℕ) → List ℕ
@@ -52,6 +56,6 @@ deviceLineIf write a letter = cond (covers write a) (deviceLine a letter) []
 abbrev pub deviceLines : Standing → List ℕ
 deviceLines s = firstLines (λ (a : ℕ). deviceLineIf (s .write) a (getD (s .letters) a 0)) 32
 
--- the whole text, for the chain's n, a number for each entry, and the letters
-unfoldable pub certificateText : (n : ℕ) → (numbers : List ℕ) → Standing → List ℕ
-certificateText n numbers s = headLine n ++ (entryLines numbers ++ deviceLines s)
+-- the whole text, for the file's version, the chain's n, a number for each entry, and the letters
+unfoldable pub certificateText : (version n : ℕ) → (numbers : List ℕ) → Standing → List ℕ
+certificateText version n numbers s = headLine version n ++ (entryLines numbers ++ deviceLines s)

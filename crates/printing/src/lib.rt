@@ -1,6 +1,6 @@
-// A certificate as text (document 01, "Job file and certificate"): `BMC 1 n`, a line `E i r` for each entry, a line `D a v` for each device
-// that the write covers. The text is laid byte by byte; a byte beyond the lent memory is counted and not written, so that the same code
-// tells the length before anything is written.
+// A certificate as text (document 01, "Job file and certificate"; document 02, M-100): `BMC`, the file's version and n, a line `E i r` for each
+// entry, a line `D a v` for each device that the write covers. The text is laid byte by byte; a byte beyond the lent memory is counted and not
+// written, so that the same code tells the length before anything is written.
 mod figures;
 mod text_lines;
 
@@ -25,25 +25,25 @@ pub enum Printed {
 pub const MOST_ENTRIES: usize = 8191;
 
 // The text at the front of the lent memory, the rest as it was; turned away, nothing is written.
-pub fn print(n: u8, numbers: &[u8], standing: Standing, text: &mut [u8]) -> Printed
-    ensures { λ r. ⌜ PrintDone n (now (numbers .entry)) standing (now (text .entry)) (now (text .exit)) r ⌝ }
+pub fn print(version: u16, n: u8, numbers: &[u8], standing: Standing, text: &mut [u8]) -> Printed
+    ensures { λ r. ⌜ PrintDone version n (now (numbers .entry)) standing (now (text .entry)) (now (text .exit)) r ⌝ }
 {
     if MOST_ENTRIES < numbers.len() {
         return Printed::Many;
     }
     let mut nowhere = [0u8; 1];
-    let end = lay(n, numbers, standing, &mut nowhere);
+    let end = lay(version, n, numbers, standing, &mut nowhere);
     if text.len() < end {
         return Printed::Room;
     }
-    Printed::Bytes(lay(n, numbers, standing, text))
+    Printed::Bytes(lay(version, n, numbers, standing, text))
 }
 
-fn lay(n: u8, numbers: &[u8], standing: Standing, text: &mut [u8]) -> usize
+fn lay(version: u16, n: u8, numbers: &[u8], standing: Standing, text: &mut [u8]) -> usize
     requires { ⌜ length (now numbers) ≤ mostEntries ⌝ }
-    ensures { λ r. ⌜ StoredAt (now (text .entry)) 0 (certificateText n (now (numbers .entry)) standing) (now (text .exit)) r ⌝ }
+    ensures { λ r. ⌜ StoredAt (now (text .entry)) 0 (certificateText version n (now (numbers .entry)) standing) (now (text .exit)) r ⌝ }
 {
-    let head = put_head(text, n);
+    let head = put_head(text, version, n);
     let entries = put_entries(text, head, numbers);
     put_devices(text, entries, standing)
 }

@@ -8,14 +8,25 @@ use questions::question::Question;
 use questions::question::is_covered;
 ghost use Prim.Native.Nat.{_≤_};
 ghost use lib.ListN.{length};
-ghost use Rattle.printing.specs.Text.{headLine, entryLine, entryLines, deviceLine, deviceLineIf, deviceLines};
+ghost use Rattle.printing.specs.Text.{numbersLine, headLine, entryLine, entryLines, deviceLine, deviceLineIf, deviceLines};
 ghost use Rattle.printing.specs.Print.{StoredAt, mostEntries};
 
-pub(crate) fn put_head(text: &mut [u8], n: u8) -> usize
-    ensures { λ r. ⌜ StoredAt (now (text .entry)) 0 (headLine n) (now (text .exit)) r ⌝ }
+// The file's version, and the chain's n.
+pub(crate) fn put_head(text: &mut [u8], version: u16, n: u8) -> usize
+    ensures { λ r. ⌜ StoredAt (now (text .entry)) 0 (headLine version n) (now (text .exit)) r ⌝ }
 {
-    let mark = put_all(text, 0, b"BMC 1 ");
-    let end = put_number(text, mark, n as usize);
+    put_numbers(text, 0, b"BMC ", version as usize, n as usize)
+}
+
+// A line of two numbers: its mark, the numbers with a space between them, and the line feed.
+fn put_numbers(text: &mut [u8], at: usize, mark: &[u8], a: usize, b: usize) -> usize
+    requires { ⌜ (at ≤ 200000) × (length (now mark) ≤ 100) ⌝ }
+    ensures { λ r. ⌜ StoredAt (now (text .entry)) at (numbersLine (now (mark .entry)) a b) (now (text .exit)) r ⌝ }
+{
+    let first = put_all(text, at, mark);
+    let space = put_number(text, first, a);
+    let second = put(text, space, 0x20);
+    let end = put_number(text, second, b);
     put(text, end, 0x0A)
 }
 
@@ -36,11 +47,7 @@ fn put_entry(text: &mut [u8], at: usize, i: usize, r: u8) -> usize
     requires { ⌜ at ≤ 200000 ⌝ }
     ensures { λ e. ⌜ StoredAt (now (text .entry)) at (entryLine i r) (now (text .exit)) e ⌝ }
 {
-    let mark = put_all(text, at, b"E ");
-    let place = put_number(text, mark, i);
-    let space = put(text, place, 0x20);
-    let end = put_number(text, space, r as usize);
-    put(text, end, 0x0A)
+    put_numbers(text, at, b"E ", i, r as usize)
 }
 
 pub(crate) fn put_devices(text: &mut [u8], at: usize, standing: Standing) -> usize

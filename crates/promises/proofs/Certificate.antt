@@ -44,9 +44,9 @@ text-of h es file encoded =
       line = standingLine s;
       deserved = line-deserved xs;
       whole =
-          ap₂ (λ (g : Header) (l : List Entry). certificateText (g .n) (numbersOf (map (heardOf g) l)) (standingAfter (map (heardOf g) l)))
+          ap₂ (λ (g : Header) (l : List Entry). certificateText (g .version) (g .n) (numbersOf (map (heardOf g) l)) (standingAfter (map (heardOf g) l)))
           (header-read h es file encoded) (entries-read h es file encoded)
-          ∙ ap (λ (d : List ℕ). headLine (h .n) ++ (entryLines (numbersOf xs) ++ d))
+          ∙ ap (λ (d : List ℕ). headLine (h .version) (h .n) ++ (entryLines (numbersOf xs) ++ d))
           (lines-alike (λ (a : ℕ). deviceLineIf (s .write) a (getD (s .letters) a 0)) (standingLine s) 32 (line-standing s));
     }
 

@@ -148,9 +148,9 @@ demand-1 = record {
       one refl (λ after r done. (done, nothing after)) (listened-by-number h e later s fits rules) (λ after r done away. nothing after);
   listen-file = λ h front s small none.
       one refl (λ after r done. (done, nothing after)) (nothing-by-number h front s small none) (λ after r done away. nothing after);
-  print = λ n numbers s text.
-      one (record { says = refl; leaves = refl }) (λ after r done. (done .says, done .leaves)) (printed-by-number n numbers s text)
-      (refused-print n numbers s text);
+  print = λ version n numbers s text.
+      one (record { says = refl; leaves = refl }) (λ after r done. (done .says, done .leaves)) (printed-by-number version n numbers s text)
+      (refused-print version n numbers s text);
   certify = λ file text small.
       one (record { says = refl; leaves = refl }) (λ after r done. (done .says, done .leaves)) (certified-by-number file text small)
       (refused-certificate file text);

@@ -51,14 +51,14 @@ pub bad-is-no-job : (file : List ℕ) → goodFile file ≡ false → NoJobFile 
 bad-is-no-job file bad h es encoded = false≢true (sym bad ∙ encoded-is-good h es file encoded)
 
 pub good-is-a-job : (file : List ℕ) → Bytes file → goodFile file ≡ true → NoJobFile file → ⊥
-good-is-a-job file small good none = none (headerIn file) (entriesIn (drop headSize file)) (good-is-encoded file small good)
+good-is-a-job file small good none = none (headerIn file) (entriesIn (headerIn file .version) (drop headSize file)) (good-is-encoded file small good)
 
 bad-is-no-entry : (h : Header) (rest : List ℕ) → goodEntry h rest ≡ false → NoEntry h rest
-bad-is-no-entry h rest bad e later fits rules written = false≢true (sym bad ∙ ap (goodEntry h) written ∙ entry-good e fits later h rules)
+bad-is-no-entry h rest bad e later fits rules written = false≢true (sym bad ∙ ap (goodEntry h) written ∙ entry-good h e fits rules later)
 
 good-is-an-entry : (h : Header) (rest : List ℕ) → Bytes rest → goodEntry h rest ≡ true → NoEntry h rest → ⊥
 good-is-an-entry h rest small good none =
-    let is = good-is-written h rest small good in none (entryIn rest) (drop (sizeIn rest) rest) (is .fits) (is .rules) (sym (is .again))
+    let is = good-is-written h rest small good in none (entryIn (h .version) rest) (drop (sizeIn (h .version) rest) rest) (is .fits) (is .rules) (sym (is .again))
 
 -- ---- a file opened, an entry taken out
 
@@ -86,38 +86,38 @@ next-by-number h file c small = by-rest (drop (c .at) file) (drop-bytes (c .at) 
 
 -- ---- an entry heard
 
-pub listened-by-number : (h : Header) (e : Entry) (later : List ℕ) (s : Standing) → Fits e → Keeps h e
-    → NumberDue (readRows (asked h e) (e .words) 32) (listenOf h (entryBytes e ++ later) s .number)
+pub listened-by-number : (h : Header) (e : Entry) (later : List ℕ) (s : Standing) → Fits (h .version) e → Keeps h e
+    → NumberDue (readRows (asked h e) (e .words) 32) (listenOf h (entryBytes (h .version) e ++ later) s .number)
 unfolding listenOf
 listened-by-number h e later s fits rules = subst (NumberDue (readRows (asked h e) (e .words) 32)) (sym heard) (by-number (asked h e) (e .words) 32)
   where
     front : List ℕ
-    front = entryBytes e ++ later
+    front = entryBytes (h .version) e ++ later
 
     number : Entry → ℕ
     number x = numberOf (judgeOf (asked h x) (x .words) 32)
 
     heard : listenOf h front s .number ≡ number e
     heard =
-        ap (λ (t : Bool). cond t (listenedTo s (heardHere h front) (sizeIn front)) (nothingHeard s) .number) (entry-good e fits later h rules)
-        ∙ ap number (entry-back e fits later)
+        ap (λ (t : Bool). cond t (listenedTo s (heardHere h front) (sizeIn (h .version) front)) (nothingHeard s) .number) (entry-good h e fits rules later)
+        ∙ ap number (entry-back h e fits rules later)
 
 pub nothing-by-number : (h : Header) (front : List ℕ) (s : Standing) → Bytes front → NoEntry h front
     → NumberDue (row 14 (NoEntry h front) ∷ []) (listenOf h front s .number)
 unfolding listenOf
 nothing-by-number h front s small none =
     let bad = refuted (goodEntry h front) (λ good. good-is-an-entry h front small good none) in
-    inl (none, ap (λ (t : Bool). cond t (listenedTo s (heardHere h front) (sizeIn front)) (nothingHeard s) .number) bad)
+    inl (none, ap (λ (t : Bool). cond t (listenedTo s (heardHere h front) (sizeIn (h .version) front)) (nothingHeard s) .number) bad)
 
 -- ---- a text printed
 
-text-by-number : (n : ℕ) (numbers : List ℕ) (s : Standing) (text : List ℕ)
-    → NumberDue (row 14 (mostEntries < length numbers) ∷ room (length text) (length (certificateText n numbers s)) ∷ []) (printedNumber (printedOf n numbers s text))
+text-by-number : (version n : ℕ) (numbers : List ℕ) (s : Standing) (text : List ℕ)
+    → NumberDue (row 14 (mostEntries < length numbers) ∷ room (length text) (length (certificateText version n numbers s)) ∷ []) (printedNumber (printedOf version n numbers s text))
 unfolding printedOf
-text-by-number n numbers s text = by-tests (leb (length numbers) mostEntries) refl (leb bytes (length text)) refl
+text-by-number version n numbers s text = by-tests (leb (length numbers) mostEntries) refl (leb bytes (length text)) refl
   where
     bytes : ℕ
-    bytes = length (certificateText n numbers s)
+    bytes = length (certificateText version n numbers s)
 
     by-tests : (few : Bool) → leb (length numbers) mostEntries ≡ few → (fits : Bool) → leb bytes (length text) ≡ fits
         → NumberDue (row 14 (mostEntries < length numbers) ∷ room (length text) bytes ∷ []) (printedNumber (cond few (cond fits (printed.Bytes bytes) printed.Room) printed.Many))
@@ -125,9 +125,9 @@ text-by-number n numbers s text = by-tests (leb (length numbers) mostEntries) re
     by-tests true few true fits = inr ((λ many. omega (arith, leb-true (length numbers) mostEntries few)), enough-room (length text) bytes fits)
     by-tests true few false short = inr ((λ many. omega (arith, leb-true (length numbers) mostEntries few)), short-of-room (length text) bytes short)
 
-pub printed-by-number : (n : ℕ) (numbers : List ℕ) (s : Standing) (text : List ℕ)
-    → NumberDue (row 14 (mostEntries < length numbers) ∷ room (length text) (length (linesOf n numbers (λ a. deviceLineIf (s .write) a (getD (s .letters) a 0)))) ∷ [])
-    (printedNumber (printedOf n numbers s text))
+pub printed-by-number : (version n : ℕ) (numbers : List ℕ) (s : Standing) (text : List ℕ)
+    → NumberDue (row 14 (mostEntries < length numbers) ∷ room (length text) (length (linesOf version n numbers (λ a. deviceLineIf (s .write) a (getD (s .letters) a 0)))) ∷ [])
+    (printedNumber (printedOf version n numbers s text))
 unfolding certificateText
 printed-by-number = text-by-number
 
@@ -166,7 +166,7 @@ answered-bytes : (h : Header) (es : List Entry) (file : List ℕ) → Encodes h 
 unfolding rehearsalOf
 answered-bytes h es file encoded =
     let g = headerIn file in
-    let read = entriesIn (drop headSize file) in
+    let read = entriesIn (g .version) (drop headSize file) in
     let same : answeredSize g read ≡ answeredSize h es = ap₂ answeredSize (header-read h es file encoded) (entries-read h es file encoded) in
     omega (arith, rehearsed-size g (powerOnMemory (g .n)) read, same, head-length g)
 
@@ -174,8 +174,8 @@ answered-bytes h es file encoded =
 above : (file : List ℕ) (most : ℕ) → Bytes file → goodFile file ≡ true → most < length (rehearsalOf file) → AnsweredAbove file most
 above file most small good over =
     let encoded = good-is-encoded file small good in
-    let bytes = answered-bytes (headerIn file) (entriesIn (drop headSize file)) file encoded in
-    (headerIn file, entriesIn (drop headSize file), encoded, omega (arith, bytes, over))
+    let bytes = answered-bytes (headerIn file) (entriesIn (headerIn file .version) (drop headSize file)) file encoded in
+    (headerIn file, entriesIn (headerIn file .version) (drop headSize file), encoded, omega (arith, bytes, over))
 
 not-above : (file : List ℕ) (most : ℕ) → length (rehearsalOf file) ≤ most → AnsweredAbove file most → ⊥
 not-above file most fits over = omega (arith, fits, answered-bytes (over .0) (over .1) file (over .2), over .3)

@@ -11,6 +11,7 @@ pub mod Demand1
 pub mod OwnLetter
 mod LinesInOrder
 mod OneText
+pub mod MaskedBits
 pub mod Certificate
 pub mod Demand2
 pub mod Apart

@@ -10,6 +10,7 @@ use lib.ListN.{getD}
 use borrow.Author.Tests.{lt-ltb, ltb-true, ltb-false}
 use Rattle.questions.specs.Question.{covers}
 use Rattle.letters.specs.Letters.{Heard, standingAfter}
+use Rattle.letters.specs.Meaning.{shownMasked}
 use Rattle.letters.specs.declared.Standing.{Standing}
 use Rattle.letters.proofs.Meaning.{given-is-deserved, deserved-is-given}
 use Rattle.printing.specs.Text.{deviceLine, deviceLineIf, firstLines}
@@ -28,11 +29,11 @@ standingLine s a = cond (ltb a 32) (deviceLineIf (s .write) a (getD (s .letters)
 pub line-standing : (s : Standing) (a : ℕ) → a < 32 → deviceLineIf (s .write) a (getD (s .letters) a 0) ≡ standingLine s a
 line-standing s a below = ap (λ (t : Bool). cond t (deviceLineIf (s .write) a (getD (s .letters) a 0)) []) (sym (lt-ltb a 32 below))
 
-pub line-deserved : (xs : List Heard) (a : ℕ) → DeviceLine xs a (standingLine (standingAfter xs) a)
+pub line-deserved : (xs : List Heard) (a : ℕ) → DeviceLine shownMasked xs a (standingLine (standingAfter xs) a)
 line-deserved xs a = by-tests (ltb a 32) refl (covers (standingAfter xs .write) a) refl
   where
     by-tests : (t : Bool) → ltb a 32 ≡ t → (u : Bool) → covers (standingAfter xs .write) a ≡ u
-        → DeviceLine xs a (cond t (cond u (deviceLine a (getD (standingAfter xs .letters) a 0)) []) [])
+        → DeviceLine shownMasked xs a (cond t (cond u (deviceLine a (getD (standingAfter xs .letters) a 0)) []) [])
     by-tests true below true covered =
         lettered (getD (standingAfter xs .letters) a 0)
         (given-is-deserved xs a (getD (standingAfter xs .letters) a 0) (ltb-true a 32 below) (record { covered = covered; stands = refl }))

@@ -11,7 +11,7 @@ use Rattle.reader.specs.Read.{valuesOn, ReadDone}
 use Rattle.jobs.specs.declared.Header.{Header}
 use Rattle.jobs.specs.Format.{Entry, asked}
 use Rattle.letters.specs.Letters.{Heard}
-use Rattle.letters.specs.Meaning.{Deserves}
+use Rattle.letters.specs.Meaning.{shownMasked, Deserves}
 use Rattle.listening.specs.Listening.{heardOf}
 use Rattle.listening.proofs.OneHeard.{values-read}
 use Rattle.promises.specs.Certificate.{FromReader, linesOf, numbersOf, CertificateText}
@@ -24,6 +24,7 @@ module _ (h : Header) where
   from-reader : (e : Entry) → FromReader h e (heardOf h e)
   from-reader e = record {
     question = refl;
+    mask = refl;
     answer = λ before after r size done.
         let q = asked h e in
         let line = e .words in
@@ -35,7 +36,7 @@ module _ (h : Header) where
   }
 
   -- and no other
-  only-one : (e : Entry) (x : Heard) → FromReader h e x → x ≡ heardOf h e
+  pub only-one : (e : Entry) (x : Heard) → FromReader h e x → x ≡ heardOf h e
   only-one e x from =
       let q = asked h e in
       let line = e .words in
@@ -44,7 +45,7 @@ module _ (h : Header) where
       let done : ReadDone q line room (atFront (valuesOn line m) room) (judgeOf q line 32) = record { says = refl; leaves = refl } in
       let answer = from .answer room (atFront (valuesOn line m) room) (judgeOf q line 32) refl done in
       let values = answer .1 ∙ values-read q line room in
-      λ i. record { question = from .question i; reading = answer .0 i; values = values i }
+      λ i. record { question = from .question i; mask = from .mask i; reading = answer .0 i; values = values i }
 
   pub all-from-reader : (es : List Entry) → Forall₂ (FromReader h) es (map (heardOf h) es)
   all-from-reader [] = Forall₂·nil
@@ -61,7 +62,7 @@ pub one-text : (h : Header) (es : List Entry) (text text′ : List ℕ) → Cert
 one-text h es text text′ c c′ =
     let heard : c .heard ≡ c′ .heard = all-only-one h es (c .heard) (c .from-reader) ∙ sym (all-only-one h es (c′ .heard) (c′ .from-reader)) in
     let lines : (a : ℕ) → c .line a ≡ c′ .line a = λ a.
-    same-line a (c .heard) (c′ .heard) (λ v. subst (λ (xs : List Heard). Deserves xs a v) heard) (λ v. subst (λ (xs : List Heard). Deserves xs a v) (sym heard))
+    same-line a (c .heard) (c′ .heard) (λ v. subst (λ (xs : List Heard). Deserves shownMasked xs a v) heard) (λ v. subst (λ (xs : List Heard). Deserves shownMasked xs a v) (sym heard))
     (c .line a) (c′ .line a) (c .deserved a) (c′ .deserved a) in
-    c .whole ∙ ap₂ (λ (xs : List Heard) (line : ℕ → List ℕ). linesOf (h .n) (numbersOf xs) line) heard (λ i a. lines a i)
+    c .whole ∙ ap₂ (λ (xs : List Heard) (line : ℕ → List ℕ). linesOf (h .version) (h .n) (numbersOf xs) line) heard (λ i a. lines a i)
     ∙ sym (c′ .whole)

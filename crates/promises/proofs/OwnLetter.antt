@@ -14,7 +14,7 @@ use Rattle.questions.specs.Question.{writeAll, writeDevice, goodQuestion, cover
 use Rattle.questions.specs.declared.question.Question.{Question}
 use Rattle.questions.proofs.Good.{good-count, good-device}
 use Rattle.letters.specs.Letters.{Heard, isGoodWrite, standingAfter}
-use Rattle.letters.specs.Meaning.{Deserves}
+use Rattle.letters.specs.Meaning.{shownMasked, Deserves}
 use Rattle.letters.proofs.Meaning.{given-is-deserved, deserved-is-given}
 use Rattle.letters.proofs.OwnView.{own-view}
 use Rattle.promises.specs.Certificate.{DeviceLine, lettered, none}
@@ -39,32 +39,32 @@ covered-below : (q : Question) → isGoodWrite q ≡ true → (a : ℕ) → cove
 covered-below q write a covered = let chain = covered-in-chain q write a covered in omega (arith, chain .0, chain .1)
 
 -- so is what deserves a letter
-pub deserving-below : {xs : List Heard} {a letter : ℕ} → Deserves xs a letter → a < 32
+pub deserving-below : {xs : List Heard} {a letter : ℕ} → Deserves shownMasked xs a letter → a < 32
 deserving-below {a = a} due = covered-below (due .write .entry .question) (due .write .passes) a (due .covered)
 
 -- what is deserved in one job is deserved in the other
-deserves-alike : (a v : ℕ) (xs xs′ : List Heard) → (covers (standingAfter xs .write) a ≡ covers (standingAfter xs′ .write) a)
-    → (getD (standingAfter xs .letters) a 0 ≡ getD (standingAfter xs′ .letters) a 0) → Deserves xs a v → Deserves xs′ a v
+pub deserves-alike : (a v : ℕ) (xs xs′ : List Heard) → (covers (standingAfter xs .write) a ≡ covers (standingAfter xs′ .write) a)
+    → (getD (standingAfter xs .letters) a 0 ≡ getD (standingAfter xs′ .letters) a 0) → Deserves shownMasked xs a v → Deserves shownMasked xs′ a v
 deserves-alike a v xs xs′ covered letter due =
     let below = deserving-below due in
     let given = deserved-is-given xs a v below due in
     given-is-deserved xs′ a v below (record { covered = sym covered ∙ given .covered; stands = sym letter ∙ given .stands })
 
 -- a device deserves one letter at most,
-one-letter : {xs : List Heard} {a v v′ : ℕ} → Deserves xs a v → Deserves xs a v′ → v ≡ v′
+one-letter : {xs : List Heard} {a v v′ : ℕ} → Deserves shownMasked xs a v → Deserves shownMasked xs a v′ → v ≡ v′
 one-letter {xs} {a} {v} {v′} due due′ =
     let below = deserving-below due in
     sym (deserved-is-given xs a v below due .stands) ∙ deserved-is-given xs a v′ below due′ .stands
 
 -- so that its line is the same wherever it deserves the same
-pub same-line : (a : ℕ) (xs xs′ : List Heard) → ((v : ℕ) → Deserves xs a v → Deserves xs′ a v) → ((v : ℕ) → Deserves xs′ a v → Deserves xs a v)
-    → (l l′ : List ℕ) → DeviceLine xs a l → DeviceLine xs′ a l′ → l ≡ l′
+pub same-line : (a : ℕ) (xs xs′ : List Heard) → ((v : ℕ) → Deserves shownMasked xs a v → Deserves shownMasked xs′ a v) → ((v : ℕ) → Deserves shownMasked xs′ a v → Deserves shownMasked xs a v)
+    → (l l′ : List ℕ) → DeviceLine shownMasked xs a l → DeviceLine shownMasked xs′ a l′ → l ≡ l′
 same-line a xs xs′ to back _ _ (lettered v due) (lettered v′ due′) = let same : v ≡ v′ = one-letter (to v due) due′ in cc
 same-line a xs xs′ to back _ _ (lettered v due) (none never) = absurd (never v (to v due))
 same-line a xs xs′ to back _ _ (none never) (lettered v due) = absurd (never v (back v due))
 same-line a xs xs′ to back _ _ (none never) (none never′) = refl
 
-pub no-line : (a : ℕ) (xs : List Heard) → ((v : ℕ) → Deserves xs a v → ⊥) → (l : List ℕ) → DeviceLine xs a l → l ≡ []
+pub no-line : (a : ℕ) (xs : List Heard) → ((v : ℕ) → Deserves shownMasked xs a v → ⊥) → (l : List ℕ) → DeviceLine shownMasked xs a l → l ≡ []
 no-line a xs never _ (lettered v due) = absurd (never v due)
 no-line a xs never _ (none never′) = refl
 

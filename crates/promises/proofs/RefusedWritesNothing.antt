@@ -59,11 +59,11 @@ refused-step fits before after out outAfter memoryLeft r done away =
     (done .remembers ∙ left-as-it-was (after .memory) (before .memory) _ row, done .leaves ∙ left-as-it-was (atFront (after .line) out) out _ row)
 
 -- a text printed
-pub refused-print : (n : ℕ) (numbers : List ℕ) (s : Standing) (before after : List ℕ) (r : Printed) → PrintDone n numbers s before after r
+pub refused-print : (version n : ℕ) (numbers : List ℕ) (s : Standing) (before after : List ℕ) (r : Printed) → PrintDone version n numbers s before after r
     → TurnedAway (printedNumber r) → after ≡ before
-refused-print n numbers s before after r done away =
+refused-print version n numbers s before after r done away =
     done .leaves
-    ∙ left-as-it-was (atFront (certificateText n numbers s) before) before _ (subst (λ (c : Printed). TurnedAway (printedNumber c)) (done .says) away)
+    ∙ left-as-it-was (atFront (certificateText version n numbers s) before) before _ (subst (λ (c : Printed). TurnedAway (printedNumber c)) (done .says) away)
 
 -- the certificate
 pub refused-certificate : (file before after : List ℕ) (r : Certified) → CertificateDone file before after r

@@ -47,7 +47,7 @@ NoJobFile file = (h : Header) (es : List Entry) → Encodes h es file → ⊥
 
 -- and of the bytes from a cursor on: they begin with the encoding of no entry that keeps the rules
 abbrev pub NoEntry : Header → (rest : List ℕ) → Type 0
-NoEntry h rest = (e : Entry) (later : List ℕ) → Fits e → Keeps h e → rest ≡ entryBytes e ++ later → ⊥
+NoEntry h rest = (e : Entry) (later : List ℕ) → Fits (h .version) e → Keeps h e → rest ≡ entryBytes (h .version) e ++ later → ⊥
 
 -- an entry taken out, where something stands (behind the last entry is no refusal)
 abbrev pub nextRows : Header → (rest : List ℕ) → List Row

@@ -1,11 +1,11 @@
--- DEMAND 2, THE CERTIFICATE (document 01, "Job file and certificate"), down to the text that a person signs (what
+-- DEMAND 2, THE CERTIFICATE (document 01, "Job file and certificate"; document 02, M-100), down to the text that a person signs (what
 -- `certify` writes; that the program puts it out is tested and not proved). Claimed of every file of bytes, and of
 -- every answer that meets the contract of `certify`, or of `bmc_certificate` for C:
 -- a certificate is written exactly where the file is the encoding of a header and entries that keep the rules and the text has room. The text is
--- `BMC 1 n`; then `E i r` for each entry, i from 1, r the number that the reader gives it; then `D a v`, in address order, for exactly the devices
+-- `BMC v n`, v the file's version; then `E i r` for each entry, i from 1, r the number that the reader gives it; then `D a v`, in address order, for exactly the devices
 -- that deserve a letter: those that the last write entry whose question is good covers, with S where of the accepted reads of that register that
--- come after the write and cover the device the latest shows the value written, O where it shows another, U where there is no such read. Nothing
--- else is printed, and without a good write there is no D line.
+-- come after the write and cover the device the latest shows the value written, in its masked bits, O where it shows another, U where there is no
+-- such read. Nothing else is printed, and without a good write there is no D line. What the masks leave as it was: MaskedBits.antt.
 use mathlib.Core.Path.{_≡_}
 use mathlib.Core.List.{List, [], _++_, map, Forall₂}
 use Prim.Native.Nat.{ℕ, _/_, _≤_}
@@ -18,7 +18,7 @@ use Rattle.jobs.specs.declared.Header.{Header}
 use Rattle.jobs.specs.Format.{Entry, asked}
 use Rattle.jobs.specs.Encoded.{Encodes}
 use Rattle.letters.specs.Letters.{Heard}
-use Rattle.letters.specs.Meaning.{None, goodWrite, Deserves}
+use Rattle.letters.specs.Meaning.{None, goodWrite, shownMasked, Deserves}
 use Rattle.printing.specs.Text.{headLine, deviceLine, firstLines, entryLines}
 use Rattle.certificate.specs.Certificate.{CertificateDone, certifiedNumber, mostText}
 use Rattle.certificate.specs.declared.Certified.the-variants as certified
@@ -30,18 +30,19 @@ use Rattle.promises.specs.WhereDue.{WhereDue}
 -- words, the reading is what the call answers, and the values are what it leaves at the front of the output.
 pub record FromReader (h : Header) (e : Entry) (x : Heard) : Type 0 where
   pub question : x .question ≡ asked h e
+  pub mask : x .mask ≡ e .mask
   pub answer : (before after : List ℕ) (r : Reading) → length before ≡ 32 → ReadDone (asked h e) (e .words) before after r
       → (x .reading ≡ r) × (x .values ≡ take (valuesTaken r) after)
 
--- device a's line: `D a v` where it deserves the letter v, and none where it deserves no letter
-pub data DeviceLine (heard : List Heard) (a : ℕ) : (line : List ℕ) → Type 0 where
-  lettered : (v : ℕ) → Deserves heard a v → DeviceLine heard a (deviceLine a v)
-  none : ((v : ℕ) → Deserves heard a v → ⊥) → DeviceLine heard a []
+-- device a's line, by what it is for a value to show what was written: `D a v` where it deserves the letter v, and none where it deserves no letter
+pub data DeviceLine (Shown : (write : Heard) → (value : ℕ) → Type 0) (heard : List Heard) (a : ℕ) : (line : List ℕ) → Type 0 where
+  lettered : (v : ℕ) → Deserves Shown heard a v → DeviceLine Shown heard a (deviceLine a v)
+  none : ((v : ℕ) → Deserves Shown heard a v → ⊥) → DeviceLine Shown heard a []
 
 -- the lines of a text, of a number for each entry and a line, or none, for each device: the first one, the E lines counted from 1, the D lines in
 -- address order; no chain has more than 32 devices
-abbrev pub linesOf : (n : ℕ) (numbers : List ℕ) (line : (a : ℕ) → List ℕ) → List ℕ
-linesOf n numbers line = headLine n ++ (entryLines numbers ++ firstLines line 32)
+abbrev pub linesOf : (version n : ℕ) (numbers : List ℕ) (line : (a : ℕ) → List ℕ) → List ℕ
+linesOf version n numbers line = headLine version n ++ (entryLines numbers ++ firstLines line 32)
 
 -- the number that the reader gives each entry
 abbrev pub numbersOf : List Heard → List ℕ
@@ -54,9 +55,9 @@ pub record CertificateText (h : Header) (es : List Entry) (text : List ℕ) : Ty
   pub from-reader : Forall₂ (FromReader h) es heard
   -- the devices' lines,
   pub line : (a : ℕ) → List ℕ
-  pub deserved : (a : ℕ) → DeviceLine heard a (line a)
+  pub deserved : (a : ℕ) → DeviceLine shownMasked heard a (line a)
   -- and these lines, and nothing else
-  pub whole : text ≡ linesOf (h .n) (numbersOf heard) line
+  pub whole : text ≡ linesOf (h .version) (h .n) (numbersOf heard) line
 
 -- the certificate's text for a file: the file is the encoding of a header and entries that keep the rules, and this is their text
 abbrev pub TextFor : (file text : List ℕ) → Type 0

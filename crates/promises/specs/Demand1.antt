@@ -119,14 +119,14 @@ pub record Demand1 : Type 0 where
   pub open-file : (file : List ℕ) → Bytes file → Replies (row 14 (NoJobFile file) ∷ []) openedNumber (Returns (openedOf file))
   pub next-entry : (h : Header) (file : List ℕ) (c : Cursor) → Bytes file → Replies (nextRows h (drop (c .at) file)) nextNumber (Returns (nextOf h file c))
   -- (heard by the reader's own rows, with room for the values of 32 devices, where the bytes begin with an entry that keeps the rules; else FILE)
-  pub listen : (h : Header) (e : Entry) (later : List ℕ) (s : Standing) → Fits e → Keeps h e
-      → Replies (readRows (asked h e) (e .words) 32) (λ (r : Listened). r .number) (Returns (listenOf h (entryBytes e ++ later) s))
+  pub listen : (h : Header) (e : Entry) (later : List ℕ) (s : Standing) → Fits (h .version) e → Keeps h e
+      → Replies (readRows (asked h e) (e .words) 32) (λ (r : Listened). r .number) (Returns (listenOf h (entryBytes (h .version) e ++ later) s))
   pub listen-file : (h : Header) (front : List ℕ) (s : Standing) → Bytes front → NoEntry h front
       → Replies (row 14 (NoEntry h front) ∷ []) (λ (r : Listened). r .number) (Returns (listenOf h front s))
-  pub print : (n : ℕ) (numbers : List ℕ) (s : Standing) (text : List ℕ)
+  pub print : (version n : ℕ) (numbers : List ℕ) (s : Standing) (text : List ℕ)
       → Answers (row 14 (mostEntries < length numbers)
-      ∷ room (length text) (length (linesOf n numbers (λ a. deviceLineIf (s .write) a (getD (s .letters) a 0)))) ∷ [])
-      printedNumber text (PrintDone n numbers s text)
+      ∷ room (length text) (length (linesOf version n numbers (λ a. deviceLineIf (s .write) a (getD (s .letters) a 0)))) ∷ [])
+      printedNumber text (PrintDone version n numbers s text)
   -- the certificate and the rehearsal, of every file of bytes
   pub certify : (file text : List ℕ) → Bytes file → Answers (certifyRows file (length text)) certifiedNumber text (CertificateDone file text)
   pub rehearse : (file out : List ℕ) → Bytes file → Answers (rehearseRows file (length out)) rehearsedNumber out (RehearsalDone file out)

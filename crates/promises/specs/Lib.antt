@@ -10,6 +10,7 @@ pub mod WhereItEnds
 pub mod EachStep
 pub mod RoundTrip
 pub mod OwnLetter
+pub mod MaskedBits
 pub mod StarredNumbers
 pub mod CSide
 pub mod SecondCall

@@ -45,7 +45,7 @@ module _ (file : List ℕ) (small : Bytes file) (ok : goodFile file ≡ true) wh
   h₀ = headerIn file
 
   abbrev answered : List Entry
-  answered = rehearsed h₀ (powerOnMemory (h₀ .n)) (entriesIn (drop headSize file))
+  answered = rehearsed h₀ (powerOnMemory (h₀ .n)) (entriesIn (h₀ .version) (drop headSize file))
 
   powered : ChainMemory (h₀ .n) (powerOnMemory (h₀ .n))
   powered = record {
@@ -55,7 +55,7 @@ module _ (file : List ℕ) (small : Bytes file) (ok : goodFile file ≡ true) wh
     words = tabulated-registers fresh (256 * h₀ .n) (λ k. figure-lt (k % 256));
   }
 
-  keeps : AllKeep h₀ (entriesIn (drop headSize file))
+  keeps : AllKeep h₀ (entriesIn (h₀ .version) (drop headSize file))
   keeps = good-is-encoded file small ok .entries
 
   -- THE REHEARSED FILE IS A JOB FILE, where it is not too long: the encoding of the header and the answered entries.
@@ -64,10 +64,10 @@ module _ (file : List ℕ) (small : Bytes file) (ok : goodFile file ≡ true) wh
   rehearsal-is-a-job short = record {
     written = refl;
     header = parts file ok .header;
-    entries = all-keep h₀ (powerOnMemory (h₀ .n)) (entriesIn (drop headSize file)) keeps powered;
+    entries = all-keep h₀ (powerOnMemory (h₀ .n)) (entriesIn (h₀ .version) (drop headSize file)) keeps powered;
     size = short;
   }
 
   -- EVERY GOOD QUESTION IS ACCEPTED, with the values that the registers held.
   pub rehearsal-is-accepted : FromChain h₀ (powerOnMemory (h₀ .n)) answered
-  rehearsal-is-accepted = from-chain h₀ (powerOnMemory (h₀ .n)) (entriesIn (drop headSize file)) keeps powered
+  rehearsal-is-accepted = from-chain h₀ (powerOnMemory (h₀ .n)) (entriesIn (h₀ .version) (drop headSize file)) keeps powered

@@ -33,24 +33,24 @@ module _ (h : Header) (file memory memory′ out out₁ out₂ : List ℕ) (powe
   from-power-on = switched-on (h .n) memory memory′ powered on a-chain
 
   abbrev es : List Entry
-  es = entriesIn (drop headSize file)
+  es = entriesIn (h .version) (drop headSize file)
 
   -- the answered file is its header and its answered entries
-  pub in-parts : rehearsalOf file ≡ headerBytes h ++ entriesBytes (rehearsed h memory′ es)
+  pub in-parts : rehearsalOf file ≡ headerBytes h ++ entriesBytes (h .version) (rehearsed h memory′ es)
   unfolding rehearsalOf
   in-parts =
-      ap (λ (x : Header). fileBytes x (rehearsed x (powerOnMemory (x .n)) es)) (sym is)
-      ∙ ap (λ (m : List ℕ). headerBytes h ++ entriesBytes (rehearsed h m es)) (sym from-power-on)
+      ap (λ (x : Header). fileBytes x (rehearsed x (powerOnMemory (x .n)) (entriesIn (x .version) (drop headSize file)))) (sym is)
+      ∙ ap (λ (m : List ℕ). headerBytes h ++ entriesBytes (h .version) (rehearsed h m es)) (sym from-power-on)
 
   pub ready : length memory′ ≡ length memory → Ready h file memory′ out₁
   ready kept = record {
     chain = ap (isChain (h .n)) kept ∙ a-chain;
     long = parts file ok .long;
     good = ap (λ (x : Header). goodEntries x (drop headSize file)) is ∙ parts file ok .entries;
-    short = omega (arith, ap length in-parts, length-append (headerBytes h) (entriesBytes (rehearsed h memory′ es)), head-length h);
+    short = omega (arith, ap length in-parts, length-append (headerBytes h) (entriesBytes (h .version) (rehearsed h memory′ es)), head-length h);
   }
 
-  pub all-written : out₁ ≡ sets out 0 (headerBytes h) → out₂ ≡ sets out₁ headSize (entriesBytes (rehearsed h memory′ es)) → out₂ ≡ sets out 0 (rehearsalOf file)
+  pub all-written : out₁ ≡ sets out 0 (headerBytes h) → out₂ ≡ sets out₁ headSize (entriesBytes (h .version) (rehearsed h memory′ es)) → out₂ ≡ sets out 0 (rehearsalOf file)
   all-written head behind =
-      behind ∙ ap₂ (λ (l : List ℕ) (k : ℕ). sets l k (entriesBytes (rehearsed h memory′ es))) head (sym (head-length h))
-      ∙ sym (sets-append out 0 (headerBytes h) (entriesBytes (rehearsed h memory′ es))) ∙ ap (sets out 0) (sym in-parts)
+      behind ∙ ap₂ (λ (l : List ℕ) (k : ℕ). sets l k (entriesBytes (h .version) (rehearsed h memory′ es))) head (sym (head-length h))
+      ∙ sym (sets-append out 0 (headerBytes h) (entriesBytes (h .version) (rehearsed h memory′ es))) ∙ ap (sets out 0) (sym in-parts)

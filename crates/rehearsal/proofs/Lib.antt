@@ -1,5 +1,6 @@
 pub mod Sending
 pub mod Counting
+mod Fields
 mod Answering
 mod FromPowerOn
 pub mod Rehearsing

@@ -36,7 +36,7 @@ pub record ChainMemory (n : ℕ) (memory : List ℕ) : Type 0 where
   pub size : length memory ≡ 256 * n
   pub words : Registers memory
 
-module _ (h : Header) (e : Entry) (fits : Fits e) (memory : List ℕ) (c : ChainMemory (h .n) memory) where
+module _ (h : Header) (e : Entry) (fits : Fits (h .version) e) (memory : List ℕ) (c : ChainMemory (h .n) memory) where
   abbrev q : Question
   q = asked h e
 
@@ -44,7 +44,7 @@ module _ (h : Header) (e : Entry) (fits : Fits e) (memory : List ℕ) (c : Chain
   n = h .n
 
   sends : Sendable q
-  sends = record { reg = fields e fits .reg; value = fields e fits .value }
+  sends = record { reg = fields (h .version) e fits .reg; value = fields (h .version) e fits .value }
 
   module _ (good : goodQuestion q ≡ true) where
     abbrev end : Chain
@@ -87,11 +87,19 @@ module _ (h : Header) (e : Entry) (fits : Fits e) (memory : List ℕ) (c : Chain
   chain-after = chain-either (goodQuestion q) refl
 
   -- the entry with its answer fits, and keeps the rules
-  pub answered-fits : Fits (withWords e (sent n memory q .line))
+  pub answered-fits : Fits (h .version) (withWords e (sent n memory q .line))
   answered-fits =
-      let own = fields e fits in
-      fits-by (withWords e (sent n memory q .line))
-      (record { kind = own .kind; reg = own .reg; device = own .device; seed = own .seed; value = own .value; words = wide-either (goodQuestion q) refl })
+      let own = fields (h .version) e fits in
+      fits-by (h .version) (withWords e (sent n memory q .line))
+      (record {
+        kind = own .kind;
+        reg = own .reg;
+        value = own .value;
+        mask = own .mask;
+        device = own .device;
+        seed = own .seed;
+        words = wide-either (goodQuestion q) refl;
+      })
       (omega (arith, answer-length q n memory, few-words q))
 
   pub answered-keeps : Keeps h e → Keeps h (withWords e (sent n memory q .line))
@@ -100,6 +108,9 @@ module _ (h : Header) (e : Entry) (fits : Fits e) (memory : List ℕ) (c : Chain
     kind = rules .kind;
     register = rules .register;
     value = rules .value;
+    mask = rules .mask;
+    masked = rules .masked;
+    whole = rules .whole;
     device = rules .device;
     seed = rules .seed;
   }

@@ -1,4 +1,4 @@
--- A job rehearsed on the twin: each good question's command goes through all devices of the chain, from power-on on, and the file is given
+-- A job rehearsed on the twin (its entries as document 01 and document 02, M-100, have them): each good question's command goes through all devices of the chain, from power-on on, and the file is given
 -- with the answers that came back. A bad question is not sent, and has no words.
 use mathlib.Core.Path.{_≡_}
 use mathlib.Core.Bool.{cond}
@@ -25,16 +25,25 @@ sent n memory q = cond (goodQuestion q) (hops n n (chainWith memory (commandLine
 
 -- an entry with these words for its answer
 abbrev pub withWords : Entry → List ℕ → Entry
-withWords e words = record { kind = e .kind; reg = e .reg; value = e .value; device = e .device; seed = e .seed; words = words }
+withWords e words = record {
+  kind = e .kind;
+  reg = e .reg;
+  value = e .value;
+  mask = e .mask;
+  device = e .device;
+  seed = e .seed;
+  words = words;
+}
 
 -- the entries with their answers, each sent to the chain as the ones before have left it
 unfoldable pub rehearsed : Header → (memory : List ℕ) → List Entry → List Entry
 rehearsed h memory [] = []
 rehearsed h memory (e ∷ es) = withWords e (sent (h .n) memory (asked h e) .line) ∷ rehearsed h (sent (h .n) memory (asked h e) .memory) es
 
--- the answered file
+-- the answered file, in the file's own version
 unfoldable pub rehearsalOf : (file : List ℕ) → List ℕ
-rehearsalOf file = fileBytes (headerIn file) (rehearsed (headerIn file) (powerOnMemory (headerIn file .n)) (entriesIn (drop headSize file)))
+rehearsalOf file =
+    fileBytes (headerIn file) (rehearsed (headerIn file) (powerOnMemory (headerIn file .n)) (entriesIn (headerIn file .version) (drop headSize file)))
 
 -- the answer: FILE, also where the answered file would be too long; then ROOM
 unfoldable pub rehearsedOf : (file out : List ℕ) → Rehearsed
@@ -63,4 +72,4 @@ answerWords q = cond (goodQuestion q) (shapeOf q .words) 0
 -- how many bytes the entries take with their answers: each its fields, and two for each word, whatever the registers hold
 unfoldable pub answeredSize : Header → List Entry → ℕ
 answeredSize h [] = 0
-answeredSize h (e ∷ es) = fieldSize + 2 * answerWords (asked h e) + answeredSize h es
+answeredSize h (e ∷ es) = fieldSize (h .version) + 2 * answerWords (asked h e) + answeredSize h es

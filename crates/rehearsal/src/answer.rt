@@ -31,7 +31,13 @@ fn answer_from_power_on(header: Header, file: &[u8], memory: &mut [u16], out: &m
     ensures { λ _. ⌜ now (out .exit) ≡ sets (now (out .entry)) 0 (rehearsalOf (now (file .entry))) ⌝ }
 {
     power_on(header.n, memory);
-    store(out, 0, &[0x42, 0x4D, 0x43, 1, 0, header.n, header.alive]);
+    let low = (header.version % 256) as u8;
+    let high = (header.version / 256) as u8;
+    store(
+        out,
+        0,
+        &[0x42, 0x4D, 0x43, low, high, header.n, header.alive],
+    );
     answer_entries(header, file, memory, out);
 }
 
@@ -44,7 +50,7 @@ fn blank_memory() -> [u16; 8192]
 
 fn answer_entries(header: Header, file: &[u8], memory: &mut [u16], out: &mut [u8])
     requires { ⌜ Ready header (now file) (now memory) (now out) ⌝ }
-    ensures { λ _. ⌜ now (out .exit) ≡ sets (now (out .entry)) headSize (entriesBytes (rehearsed header (now (memory .entry)) (entriesIn (drop headSize (now (file .entry)))))) ⌝ }
+    ensures { λ _. ⌜ now (out .exit) ≡ sets (now (out .entry)) headSize (entriesBytes (header .version) (rehearsed header (now (memory .entry)) (entriesIn (header .version) (drop headSize (now (file .entry)))))) ⌝ }
 {
     let start = first();
     let mut places = Places {

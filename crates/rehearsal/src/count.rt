@@ -43,7 +43,7 @@ fn count_entry(header: Header, file: &[u8], places: Places) -> Places
     };
     Places {
         at: after.at,
-        to: places.to + field_size() + 2 * answer_words(entry.question),
+        to: places.to + field_size(header.version) + 2 * answer_words(entry.question),
     }
 }
 

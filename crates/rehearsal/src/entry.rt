@@ -19,7 +19,7 @@ ghost use lib.Seq.{sets};
 ghost use Rattle.packing.specs.Words.{asBytes};
 ghost use Rattle.registers.specs.Memory.{isChain};
 ghost use Rattle.jobs.specs.Check.{goodEntries};
-ghost use Rattle.rehearsal.specs.Answering.{SentDone, fieldsFor, AnsweredOne};
+ghost use Rattle.rehearsal.specs.Answering.{SentDone, fieldsFor, MaskPut, AnsweredOne};
 
 // One entry more, with its answer.
 pub(crate) fn answer_entry(
@@ -40,8 +40,8 @@ pub(crate) fn answer_entry(
     let q = entry.question;
     let mut line: [u16; 140] = [0; 140];
     let words = send(header.n, q, memory, &mut line);
-    put_fields(out, to, q, words);
-    let behind = to + field_size();
+    put_fields(out, to, header.version, q, entry.mask, words);
+    let behind = to + field_size(header.version);
     put_words(out, behind, &line[..words]);
     Places {
         at: after.at,
@@ -63,26 +63,31 @@ fn send(n: u8, q: Question, memory: &mut [u16], line: &mut [u16]) -> usize
     words
 }
 
-fn put_fields(out: &mut [u8], to: usize, q: Question, words: usize)
-    requires { ⌜ words ≤ 140 ⌝ }
-    ensures { λ _. ⌜ now (out .exit) ≡ sets (now (out .entry)) to (fieldsFor q words) ⌝ }
+fn put_fields(out: &mut [u8], to: usize, version: u16, q: Question, mask: u16, words: usize)
+    requires { ⌜ (to ≤ 100000) × (words ≤ 140) ⌝ }
+    ensures { λ _. ⌜ now (out .exit) ≡ sets (now (out .entry)) to (fieldsFor version q mask words) ⌝ }
 {
     let low = (q.value % 256) as u8;
     let high = (q.value / 256) as u8;
-    store(
-        out,
-        to,
-        &[
-            q.kind,
-            q.reg,
-            low,
-            high,
-            q.device,
-            q.seed,
-            (words % 256) as u8,
-            (words / 256) as u8,
-        ],
-    );
+    store(out, to, &[q.kind, q.reg, low, high]);
+    let behind = put_mask(out, to + 4, version, mask);
+    let few = (words % 256) as u8;
+    let many = (words / 256) as u8;
+    store(out, behind, &[q.device, q.seed, few, many]);
+}
+
+// The mask where the version has one, and the place behind it.
+fn put_mask(out: &mut [u8], to: usize, version: u16, mask: u16) -> usize
+    requires { ⌜ to ≤ 200000 ⌝ }
+    ensures { λ r. ⌜ MaskPut version mask to (now (out .entry)) (now (out .exit)) r ⌝ }
+{
+    if version < 2 {
+        return to;
+    }
+    let low = (mask % 256) as u8;
+    let high = (mask / 256) as u8;
+    store(out, to, &[low, high]);
+    to + 2
 }
 
 // The words of an answer, two bytes each.

@@ -37,9 +37,9 @@ returns c =
     let a = c .before .before .before .before .before .before .before .before .before .before .before .before .args in
     let told = c .before .before .before .before .before .before .before .tell .ensures in
     let text = a .text .now in
-    let after = c .before .before .print .last .1 .1 .1 .0 in
-    subst (λ (s : Standing). PrintDone (a .header .n) (numbersOf (heardIn (a .file .now))) s text after (c .before .before .print .result)) (told .standing)
-    (subst (λ (numbers : List ℕ). PrintDone (a .header .n) numbers (c .before .before .before .before .before .before .before .tell .result .standing) text after (c .before .before .print .result)) (told .numbers) (c .before .before .print .ensures))
+    let after = c .before .before .print .last .1 .1 .1 .1 .0 in
+    subst (λ (s : Standing). PrintDone (a .header .version) (a .header .n) (numbersOf (heardIn (a .file .now))) s text after (c .before .before .print .result)) (told .standing)
+    (subst (λ (numbers : List ℕ). PrintDone (a .header .version) (a .header .n) numbers (c .before .before .before .before .before .before .before .tell .result .standing) text after (c .before .before .print .result)) (told .numbers) (c .before .before .print .ensures))
 
 pub print-told-spec : {M : Type 1} → statement M
 print-told-spec =

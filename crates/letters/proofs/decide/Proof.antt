@@ -16,18 +16,18 @@ use Rattle.letters.proofs.decide.Statement.{statement}
 use Rattle.letters.proofs.decide.Tie as tie
 
 abbrev Inv-loop : tie.InvT-loop
-Inv-loop q values write letters₀ end at₀ letters at =
-    (end ≡ upto write q) × (from write q ≤ at) × (length letters ≡ 32) × SoFar write q values letters₀ letters at
+Inv-loop q values write mask letters₀ end at₀ letters at =
+    (end ≡ upto write q) × (from write q ≤ at) × (length letters ≡ 32) × SoFar write mask q values letters₀ letters at
 
 abbrev μ-loop : tie.MeasureT-loop
-μ-loop q values write letters₀ end at₀ letters at = end - at
+μ-loop q values write mask letters₀ end at₀ letters at = end - at
 
 returns : tie.Need-returns Inv-loop μ-loop
 returns c =
     let a = c .before .before .before .before .before .args in
     let s = a .standing in
-    ap (λ (l : List ℕ). record { write = s .write; letters = l })
-    (none-decided (s .write) (a .q) (a .values .now) (s .letters) (c .if1 .taken) (search needs))
+    ap (λ (l : List ℕ). record { write = s .write; mask = s .mask; letters = l })
+    (none-decided (s .write) (s .mask) (a .q) (a .values .now) (s .letters) (c .if1 .taken) (search needs))
 
 span-of-requires : tie.Need-span-of-requires Inv-loop μ-loop
 span-of-requires c κs = search needs
@@ -56,7 +56,7 @@ loop-holds c =
           ∙ ap (min 32) (c .before .before .least .ensures ∙ ap₂ (λ (s t : Span). min (s .end) (t .end)) (asked .ensures) (written .ensures)),
       le-of-eq (sym starts),
       search (needs, c .before .before .before .before .before .before .before .before .before .before .before .good),
-      none-yet write (a .q) (a .values .now) (a .standing .letters) (c .most .result) (le-of-eq starts),
+      none-yet write (a .standing .mask) (a .q) (a .values .now) (a .standing .letters) (c .most .result) (le-of-eq starts),
     )
 
 value-for-requires : tie.Need-value-for-requires Inv-loop μ-loop
@@ -84,8 +84,8 @@ loop-again c =
       inv .0,
       omega arith,
       length-set (loop .letters) (loop .at) (c .verdict-of .result) ∙ inv .2,
-      one-more (s .write) (a .q) (a .values .now) (s .letters) (loop .letters) (loop .at) (c .verdict-of .result) same (inv .1) (omega arith)
-          (inv .2) (c .verdict-of .ensures ∙ ap (λ (value : ℕ). verdict value (s .write .value)) (c .before .value-for .ensures)) (inv .3),
+      one-more (s .write) (s .mask) (a .q) (a .values .now) (s .letters) (loop .letters) (loop .at) (c .verdict-of .result) same (inv .1) (omega arith)
+          (inv .2) (c .verdict-of .ensures ∙ ap (λ (value : ℕ). verdict (s .mask) value (s .write .value)) (c .before .value-for .ensures)) (inv .3),
     )
 
 returns-2 : tie.Need-returns-2 Inv-loop μ-loop
@@ -93,8 +93,8 @@ returns-2 c =
     let a = c .before .before .before .before .before .before .before .before .before .before .before .before .before .args in
     let s = a .standing in
     let loop = c .before .loop in
-    ap (λ (l : List ℕ). record { write = s .write; letters = l })
-    (all-decided (s .write) (a .q) (a .values .now) (s .letters) (loop .letters) (loop .at) (omega arith) (loop .inv .2) (loop .inv .3))
+    ap (λ (l : List ℕ). record { write = s .write; mask = s .mask; letters = l })
+    (all-decided (s .write) (s .mask) (a .q) (a .values .now) (s .letters) (loop .letters) (loop .at) (omega arith) (loop .inv .2) (loop .inv .3))
 
 pub decide-spec : {M : Type 1} → statement M
 decide-spec =

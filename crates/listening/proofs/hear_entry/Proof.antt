@@ -90,7 +90,7 @@ returns c =
     let even : length part ≡ 2 * words = omega (arith, length-take (from + 2 * words - from) (drop from front), length-drop from front, c .before .before .before .before .before .before .before .before .before .before .before .before .before .before .before .before .before .pre .1) in
     let line = ap (take words) (c .before .before .before .before .before .before .before .before .before .before .before .unpack .ensures) ∙ line-read (c .before .before .before .before .before .before .before .before .before .before .before .before .before .before .blank-line .result) part words even (omega (arith, c .before .before .before .before .before .before .before .before .before .before .before .before .before .before .before .before .before .pre .0, c .before .before .before .before .before .before .before .before .before .before .before .before .before .before .blank-line .ensures))
     ∙ ap (λ (n : ℕ). wordsOf (take n (drop from front))) span in
-    heard-is (a .standing) (c .before .before .hear .result) (a .entry .question) (wordsOf (take (2 * words) (drop from front))) _ (c .before .before .before .before .before .before .before .before .before .blank-values .result) _ (c .before .before .before .before .before .before .read .result) (c .before .before .before .before .values-taken .result) (c .before .number-of .result) (from + 2 * words) (c .has-values .result)
+    heard-is (a .standing) (c .before .before .hear .result) (a .entry .question) (a .entry .mask) (wordsOf (take (2 * words) (drop from front))) _ (c .before .before .before .before .before .before .before .before .before .blank-values .result) _ (c .before .before .before .before .before .before .read .result) (c .before .before .before .before .values-taken .result) (c .before .number-of .result) (from + 2 * words) (c .has-values .result)
     line (c .before .before .before .before .before .before .before .before .before .blank-values .ensures) (c .before .before .before .before .before .before .read .ensures) (c .before .before .before .before .values-taken .ensures) (c .before .number-of .ensures) (c .has-values .ensures) (c .before .before .hear .ensures)
 
 pub hear-entry-spec : {M : Type 1} → statement M

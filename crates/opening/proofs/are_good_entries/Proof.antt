@@ -63,15 +63,15 @@ add-at c =
     let file = a .file .now in
     let at = c .before .before .before .before .before .before .loop .at in
     let is = good (a .header) (drop at file) (sym (c .before .before .before .is-good-entry .ensures ∙ ap (goodEntry (a .header)) (part-to-end file at)) ∙ not-false _ (c .before .before .if1 .left)) in
-    omega (arith, c .size-in .ensures ∙ ap sizeIn (part-to-end file at), is .whole, length-drop at file)
+    omega (arith, c .size-in .ensures ∙ ap (sizeIn (a .header .version)) (part-to-end file at), is .whole, length-drop at file)
 
 loop-less : tie.Need-loop-less Inv-loop μ-loop
 loop-less c =
     let a = c .before .before .before .before .before .before .before .before .before .args in
     let file = a .file .now in
     let at = c .before .before .before .before .before .before .loop .at in
-    let size = c .size-in .ensures ∙ ap sizeIn (part-to-end file at) in
-    omega (arith, size, field-bounds .0, c .before .before .before .before .before .loop-test .taken)
+    let size = c .size-in .ensures ∙ ap (sizeIn (a .header .version)) (part-to-end file at) in
+    omega (arith, size, field-bounds (a .header .version) .0, c .before .before .before .before .before .loop-test .taken)
 
 loop-again : tie.Need-loop-again Inv-loop μ-loop
 loop-again c =
@@ -79,7 +79,7 @@ loop-again c =
     let file = a .file .now in
     let at = c .before .before .before .before .before .before .loop .at in
     let is = sym (c .before .before .before .is-good-entry .ensures ∙ ap (goodEntry (a .header)) (part-to-end file at)) ∙ not-false _ (c .before .before .if1 .left) in
-    let size = c .size-in .ensures ∙ ap sizeIn (part-to-end file at) in (
+    let size = c .size-in .ensures ∙ ap (sizeIn (a .header .version)) (part-to-end file at) in (
       omega (arith, size, good (a .header) (drop at file) is .whole, length-drop at file),
       ap (λ (k : ℕ). goodEntries (a .header) (drop (at + k) file)) size ∙ sym (good-here (a .header) file at (c .before .before .before .before .before .loop-test .taken) is) ∙ c .before .before .before .before .before .before .loop .inv .1,
     )

@@ -1,10 +1,13 @@
 -- `open` meets its contract: at each `return` the tests before it decide the definition.
-use mathlib.Core.Path.{sym, _∙_}
+use mathlib.Core.Path.{sym, ap, _∙_}
 use native.Mathlib.Omega.{arith}
-use lib.ListN.{length}
+use lib.ListN.{length, drop}
 use borrow.Author.Tests.{le-leb, lt-leb, not-true, not-false}
+use Rattle.jobs.specs.declared.Header.{Header}
+use Rattle.jobs.specs.declared.Opened.the-variants as opened
 use Rattle.jobs.specs.Format.{headSize}
-use Rattle.jobs.specs.Check.{goodFile, openedOf}
+use Rattle.jobs.specs.Rules.{goodHeader}
+use Rattle.jobs.specs.Check.{goodEntries, goodFile, openedOf}
 use Rattle.jobs.proofs.Sizes.{head-bounds}
 use borrow.Author.Needs.{needs}
 use Rattle.opening.proofs.open.Statement.{statement}
@@ -28,11 +31,8 @@ returns-3 : tie.Need-returns-3
 unfolding openedOf goodFile
 returns-3 c = simp (le-leb _ _ (c .before .before .before .before .if1 .left), le-leb headSize (length (c .before .before .before .before .before .before .args .file .now)) (omega (arith, c .before .before .before .head-size .ensures, c .before .before .if2 .left)), sym (c .before .is-marked .ensures) ∙ not-true _ (c .if3 .taken))
 
-shared-slice-read-t8 : tie.Need-shared-slice-read-t8
-shared-slice-read-t8 c = omega (arith, head-bounds .0)
-
-shared-slice-read-t10 : tie.Need-shared-slice-read-t10
-shared-slice-read-t10 c = omega (arith, head-bounds .0)
+header-in-requires : tie.Need-header-in-requires
+header-in-requires c κs = omega (arith, head-bounds .0, c .before .before .before .head-size .ensures, c .before .before .if2 .left)
 
 is-good-header-requires : tie.Need-is-good-header-requires
 is-good-header-requires c κs = search needs
@@ -40,7 +40,8 @@ is-good-header-requires c κs = search needs
 returns-4 : tie.Need-returns-4
 unfolding openedOf goodFile
 returns-4 c =
-    simp (le-leb _ _ (c .before .before .before .before .before .before .before .before .if1 .left), le-leb headSize (length (c .before .before .before .before .before .before .before .before .before .before .args .file .now)) (omega (arith, c .before .before .before .before .before .before .before .head-size .ensures, c .before .before .before .before .before .before .if2 .left)), sym (c .before .before .before .before .before .is-marked .ensures) ∙ not-false _ (c .before .before .before .before .if3 .left), sym (c .before .is-good-header .ensures) ∙ not-true _ (c .if4 .taken))
+    let good = c .before .is-good-header .ensures ∙ ap goodHeader (c .before .before .header-in .ensures) in
+    simp (le-leb _ _ (c .before .before .before .before .before .before .before .if1 .left), le-leb headSize (length (c .before .before .before .before .before .before .before .before .before .args .file .now)) (omega (arith, c .before .before .before .before .before .before .head-size .ensures, c .before .before .before .before .before .if2 .left)), sym (c .before .before .before .before .is-marked .ensures) ∙ not-false _ (c .before .before .before .if3 .left), sym good ∙ not-true _ (c .if4 .taken))
 
 are-good-entries-requires : tie.Need-are-good-entries-requires
 are-good-entries-requires c κs = search needs
@@ -48,24 +49,20 @@ are-good-entries-requires c κs = search needs
 returns-5 : tie.Need-returns-5
 unfolding openedOf goodFile
 returns-5 c =
-    simp (
-      le-leb _ _ (c .before .before .before .before .before .before .before .before .before .before .if1 .left),
-      le-leb headSize (length (c .before .before .before .before .before .before .before .before .before .before .before .before .args .file .now)) (omega (arith, c .before .before .before .before .before .before .before .before .before .head-size .ensures, c .before .before .before .before .before .before .before .before .if2 .left)),
-      sym (c .before .before .before .before .before .before .before .is-marked .ensures) ∙ not-false _ (c .before .before .before .before .before .before .if3 .left),
-      sym (c .before .before .before .is-good-header .ensures) ∙ not-false _ (c .before .before .if4 .left),
-      sym (c .before .are-good-entries .ensures) ∙ not-true _ (c .if5 .taken),
-    )
+    let file = c .before .before .before .before .before .before .before .before .before .before .before .args .file .now in
+    let is = c .before .before .before .before .header-in .ensures in
+    let good = c .before .before .before .is-good-header .ensures ∙ ap goodHeader is in
+    let entries = c .before .are-good-entries .ensures ∙ ap (λ (h : Header). goodEntries h (drop headSize file)) is in
+    simp (le-leb _ _ (c .before .before .before .before .before .before .before .before .before .if1 .left), le-leb headSize (length (c .before .before .before .before .before .before .before .before .before .before .before .args .file .now)) (omega (arith, c .before .before .before .before .before .before .before .before .head-size .ensures, c .before .before .before .before .before .before .before .if2 .left)), sym (c .before .before .before .before .before .before .is-marked .ensures) ∙ not-false _ (c .before .before .before .before .before .if3 .left), sym good ∙ not-false _ (c .before .before .if4 .left), sym entries ∙ not-true _ (c .if5 .taken))
 
 returns-6 : tie.Need-returns-6
 unfolding openedOf goodFile
 returns-6 c =
-    simp (
-      le-leb _ _ (c .before .before .before .before .before .before .before .before .before .before .if1 .left),
-      le-leb headSize (length (c .before .before .before .before .before .before .before .before .before .before .before .before .args .file .now)) (omega (arith, c .before .before .before .before .before .before .before .before .before .head-size .ensures, c .before .before .before .before .before .before .before .before .if2 .left)),
-      sym (c .before .before .before .before .before .before .before .is-marked .ensures) ∙ not-false _ (c .before .before .before .before .before .before .if3 .left),
-      sym (c .before .before .before .is-good-header .ensures) ∙ not-false _ (c .before .before .if4 .left),
-      sym (c .before .are-good-entries .ensures) ∙ not-false _ (c .if5 .left),
-    )
+    let file = c .before .before .before .before .before .before .before .before .before .before .before .args .file .now in
+    let is = c .before .before .before .before .header-in .ensures in
+    let good = c .before .before .before .is-good-header .ensures ∙ ap goodHeader is in
+    let entries = c .before .are-good-entries .ensures ∙ ap (λ (h : Header). goodEntries h (drop headSize file)) is in
+    simp (le-leb _ _ (c .before .before .before .before .before .before .before .before .before .if1 .left), le-leb headSize (length (c .before .before .before .before .before .before .before .before .before .before .before .args .file .now)) (omega (arith, c .before .before .before .before .before .before .before .before .head-size .ensures, c .before .before .before .before .before .before .before .if2 .left)), sym (c .before .before .before .before .before .before .is-marked .ensures) ∙ not-false _ (c .before .before .before .before .before .if3 .left), sym good ∙ not-false _ (c .before .before .if4 .left), sym entries ∙ not-false _ (c .if5 .left)) (ap opened.Job is)
 
 pub open-spec : {M : Type 1} → statement M
 open-spec =
@@ -76,8 +73,7 @@ open-spec =
     returns-2
     is-marked-requires
     returns-3
-    shared-slice-read-t8
-    shared-slice-read-t10
+    header-in-requires
     is-good-header-requires
     returns-4
     are-good-entries-requires

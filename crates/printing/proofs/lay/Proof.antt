@@ -12,12 +12,12 @@ put-head-requires : tie.Need-put-head-requires
 put-head-requires c κs = search needs
 
 put-entries-requires : tie.Need-put-entries-requires
-put-entries-requires c κs = omega (arith, head-most (c .before .before .before .before .before .before .before .args .n))
+put-entries-requires c κs = let a = c .before .before .before .before .before .before .before .args in omega (arith, head-most (a .version) (a .n))
 
 put-devices-requires : tie.Need-put-devices-requires
 put-devices-requires c κs =
     let a = c .before .before .before .before .before .before .before .before .before .before .before .args in
-    omega (arith, head-most (a .n), entries-most (a .numbers .now) (length (a .numbers .now)))
+    omega (arith, head-most (a .version) (a .n), entries-most (a .numbers .now) (length (a .numbers .now)))
 
 same-length : tie.Need-same-length
 same-length c = search needs

@@ -6,7 +6,7 @@ use Rattle.printing.proofs.print.Statement.{statement}
 use Rattle.printing.proofs.print.Tie as tie
 
 returns : tie.Need-returns
-returns c = let a = c .before .before .before .args in too-many (a .n) (a .numbers .now) (a .standing) (a .text .now) (omega arith)
+returns c = let a = c .before .before .before .args in too-many (a .version) (a .n) (a .numbers .now) (a .standing) (a .text .now) (omega arith)
 
 slice-aggregate-lay : tie.Need-slice-aggregate-lay
 slice-aggregate-lay c = search needs
@@ -17,7 +17,7 @@ lay-requires c κs = search needs
 returns-2 : tie.Need-returns-2
 returns-2 c =
     let a = c .before .before .before .before .before .before .before .args in
-    no-room (a .n) (a .numbers .now) (a .standing) (a .text .now) (omega arith) (omega (arith, c .before .before .lay .ensures .up))
+    no-room (a .version) (a .n) (a .numbers .now) (a .standing) (a .text .now) (omega arith) (omega (arith, c .before .before .lay .ensures .up))
 
 lay-requires-2 : tie.Need-lay-requires-2
 lay-requires-2 c κs = search needs
@@ -28,7 +28,7 @@ same-length c = search needs
 returns-3 : tie.Need-returns-3
 returns-3 c =
     let a = c .before .before .before .before .before .before .before .before .before .before .before .args in
-    printed (a .n) (a .numbers .now) (a .standing) (a .text .now) (omega arith) (omega (arith, c .before .before .before .before .before .before .lay .ensures .up)) (c .before .before .lay2 .ensures)
+    printed (a .version) (a .n) (a .numbers .now) (a .standing) (a .text .now) (omega arith) (omega (arith, c .before .before .before .before .before .before .lay .ensures .up)) (c .before .before .lay2 .ensures)
 
 pub print-spec : {M : Type 1} → statement M
 print-spec = tie.close (tie.spec returns slice-aggregate-lay lay-requires returns-2 lay-requires-2 same-length returns-3)

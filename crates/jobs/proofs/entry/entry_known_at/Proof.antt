@@ -3,8 +3,8 @@ use mathlib.Core.Path.{ap, _∙_}
 use native.Mathlib.Omega.{arith}
 use lib.ListN.{length, drop, length-drop}
 use Rattle.ground.proofs.Lists.{part-to-end}
-use Rattle.jobs.specs.Check.{wordsIn, askedIn}
-use Rattle.jobs.proofs.Sizes.{field-bounds}
+use Rattle.jobs.specs.Check.{wordsIn, maskIn, askedIn}
+use Rattle.jobs.proofs.Sizes.{field-size-is}
 use Rattle.jobs.proofs.GoodEntry.{good, placed-is}
 use borrow.Author.Needs.{needs}
 use Rattle.jobs.proofs.entry.entry_known_at.Statement.{statement}
@@ -35,31 +35,41 @@ part-question-in-end : tie.Need-part-question-in-end
 part-question-in-end c = search needs
 
 question-in-requires : tie.Need-question-in-requires
-question-in-requires c κs = let a = c .before .before .before .before .args in omega (arith, ap length (part-to-end (a .file .now) (a .at)), good (a .header) (drop (a .at) (a .file .now)) (c .before .before .before .before .pre .1) .whole, field-bounds .0)
+question-in-requires c κs = let a = c .before .before .before .before .args in omega (arith, ap length (part-to-end (a .file .now) (a .at)), good (a .header) (drop (a .at) (a .file .now)) (c .before .before .before .before .pre .1) .whole, field-size-is (a .header .version))
+
+sub-mask-in : tie.Need-sub-mask-in
+sub-mask-in c = search needs
+
+part-mask-in-start : tie.Need-part-mask-in-start
+part-mask-in-start c = search needs
+
+part-mask-in-end : tie.Need-part-mask-in-end
+part-mask-in-end c = search needs
+
+mask-in-requires : tie.Need-mask-in-requires
+mask-in-requires c κs = search needs
 
 field-size-requires : tie.Need-field-size-requires
 field-size-requires c κs = search needs
 
 add-start : tie.Need-add-start
-add-start c = let a = c .before .before .before .before .before .before .args in omega (arith, c .field-size .ensures, good (a .header) (drop (a .at) (a .file .now)) (c .before .before .before .before .before .before .pre .1) .whole, length-drop (a .at) (a .file .now))
+add-start c = let a = c .before .before .before .before .before .before .before .before .args in omega (arith, c .field-size .ensures, good (a .header) (drop (a .at) (a .file .now)) (c .before .before .before .before .before .before .before .before .pre .1) .whole, length-drop (a .at) (a .file .now))
 
-mul-t9 : tie.Need-mul-t9
-mul-t9 c =
-    let a = c .before .before .before .before .before .before .args in
-    let words = c .before .before .before .words-in .ensures ∙ ap wordsIn (part-to-end (a .file .now) (a .at)) in
-    omega (arith, words, good (a .header) (drop (a .at) (a .file .now)) (c .before .before .before .before .before .before .pre .1) .words)
+mul-t10 : tie.Need-mul-t10
+mul-t10 c = search needs
 
-add-t16 : tie.Need-add-t16
-add-t16 c =
-    let a = c .before .before .before .before .before .before .args in
-    let words = c .before .before .before .words-in .ensures ∙ ap wordsIn (part-to-end (a .file .now) (a .at)) in
-    omega (arith, c .field-size .ensures, words, good (a .header) (drop (a .at) (a .file .now)) (c .before .before .before .before .before .before .pre .1) .whole, length-drop (a .at) (a .file .now))
+add-t20 : tie.Need-add-t20
+add-t20 c =
+    let a = c .before .before .before .before .before .before .before .before .args in
+    let words = c .before .before .before .before .before .words-in .ensures ∙ ap (wordsIn (a .header .version)) (part-to-end (a .file .now) (a .at)) in
+    omega (arith, c .field-size .ensures, words, good (a .header) (drop (a .at) (a .file .now)) (c .before .before .before .before .before .before .before .before .pre .1) .whole, length-drop (a .at) (a .file .now))
 
 returns : tie.Need-returns
 returns c =
-    let a = c .before .before .before .before .before .before .args in
+    let a = c .before .before .before .before .before .before .before .before .args in
+    let v = a .header .version in
     let part = part-to-end (a .file .now) (a .at) in
-    placed-is (a .header) (drop (a .at) (a .file .now)) (a .at) _ _ _ (c .before .question-in .ensures ∙ ap (askedIn (a .header)) part) (c .field-size .ensures) (c .before .before .before .words-in .ensures ∙ ap wordsIn part)
+    placed-is (a .header) (drop (a .at) (a .file .now)) (a .at) _ _ _ _ (c .before .before .before .question-in .ensures ∙ ap (askedIn (a .header)) part) (c .before .mask-in .ensures ∙ ap (maskIn v) part) (c .field-size .ensures) (c .before .before .before .before .before .words-in .ensures ∙ ap (wordsIn v) part)
 
 pub entry-known-at-spec : {M : Type 1} → statement M
 entry-known-at-spec =
@@ -74,8 +84,12 @@ entry-known-at-spec =
     part-question-in-start
     part-question-in-end
     question-in-requires
+    sub-mask-in
+    part-mask-in-start
+    part-mask-in-end
+    mask-in-requires
     field-size-requires
     add-start
-    mul-t9
-    add-t16
+    mul-t10
+    add-t20
     returns)

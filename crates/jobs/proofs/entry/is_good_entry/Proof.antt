@@ -1,13 +1,12 @@
 -- `is_good_entry` meets its contract: at each `return` the tests before it decide the definition.
-use mathlib.Core.Path.{sym, ap, _∙_}
-use mathlib.Core.Bool.{Bool, _&&_}
+use mathlib.Core.Path.{sym, ap, ap₂, _∙_}
 use native.Mathlib.Omega.{arith}
 use lib.ListN.{getD}
-use borrow.Author.Tests.{le-leb, lt-leb}
+use borrow.Author.Tests.{le-leb, lt-leb, not-true, not-false}
+use Rattle.masks.specs.Masks.{maskKept}
 use Rattle.questions.specs.declared.question.Question.{Question}
 use Rattle.used_fields.specs.Used.{unusedAreZero}
-use Rattle.jobs.specs.Check.{askedIn}
-use Rattle.jobs.proofs.Sizes.{field-bounds}
+use Rattle.jobs.proofs.Sizes.{field-size-is}
 use Rattle.jobs.proofs.GoodEntry.{too-short, too-many, cut-short, of-its-fields}
 use borrow.Author.Needs.{needs}
 use Rattle.jobs.proofs.entry.is_good_entry.Statement.{statement}
@@ -32,25 +31,42 @@ returns-3 : tie.Need-returns-3
 returns-3 c = sym (cut-short (c .before .before .before .before .before .before .before .args .header) (c .before .before .before .before .before .before .before .args .front .now) (omega (arith, c .before .size-in .ensures, c .if3 .taken)))
 
 question-in-requires : tie.Need-question-in-requires
-question-in-requires c κs = omega (arith, field-bounds .0, c .before .before .before .before .before .field-size .ensures, c .before .before .before .before .if1 .left)
+question-in-requires c κs = omega (arith, field-size-is (c .before .before .before .before .before .before .before .args .header .version), c .before .before .before .before .before .field-size .ensures, c .before .before .before .before .if1 .left)
 
 returns-4 : tie.Need-returns-4
 returns-4 c =
     let a = c .before .before .before .before .before .before .before .before .before .before .args in
     let kind = ap (λ (q : Question). q .kind) (c .before .before .question-in .ensures) in
-    sym (of-its-fields (a .header) (a .front .now) (omega (arith, c .before .before .before .before .size-in .ensures, c .before .before .before .if3 .left)) (omega (arith, c .before .before .before .before .before .before .words-in .ensures, c .before .before .before .before .before .if2 .left))
-    ∙ ap (λ (t : Bool). t && unusedAreZero (askedIn (a .header) (a .front .now))) (lt-leb (getD (a .front .now) 0 0) 4 (omega (arith, kind, c .if4 .taken))))
+    let fields = of-its-fields (a .header) (a .front .now) (omega (arith, c .before .before .before .before .size-in .ensures, c .before .before .before .if3 .left)) (omega (arith, c .before .before .before .before .before .before .words-in .ensures, c .before .before .before .before .before .if2 .left)) in
+    simp (fields, lt-leb (getD (a .front .now) 0 0) 4 (omega (arith, kind, c .if4 .taken)))
 
 are-unused-zero-requires : tie.Need-are-unused-zero-requires
 are-unused-zero-requires c κs = search needs
 
 returns-5 : tie.Need-returns-5
 returns-5 c =
-    let a = c .before .before .before .before .before .before .before .before .before .before .before .args in
-    let kind = ap (λ (q : Question). q .kind) (c .before .before .before .question-in .ensures) in
-    c .are-unused-zero .ensures ∙ ap unusedAreZero (c .before .before .before .question-in .ensures)
-    ∙ sym (of-its-fields (a .header) (a .front .now) (omega (arith, c .before .before .before .before .before .size-in .ensures, c .before .before .before .before .if3 .left)) (omega (arith, c .before .before .before .before .before .before .before .words-in .ensures, c .before .before .before .before .before .before .if2 .left))
-    ∙ ap (λ (t : Bool). t && unusedAreZero (askedIn (a .header) (a .front .now))) (le-leb (getD (a .front .now) 0 0) 4 (omega (arith, kind, c .before .if4 .left))))
+    let a = c .before .before .before .before .before .before .before .before .before .before .before .before .args in
+    let asks = c .before .before .before .before .question-in .ensures in
+    let kind = ap (λ (q : Question). q .kind) asks in
+    let unused = sym (c .before .are-unused-zero .ensures ∙ ap unusedAreZero asks) ∙ not-true _ (c .if5 .taken) in
+    let fields = of-its-fields (a .header) (a .front .now) (omega (arith, c .before .before .before .before .before .before .size-in .ensures, c .before .before .before .before .before .if3 .left)) (omega (arith, c .before .before .before .before .before .before .before .before .words-in .ensures, c .before .before .before .before .before .before .before .if2 .left)) in
+    simp (fields, unused, le-leb (getD (a .front .now) 0 0) 4 (omega (arith, kind, c .before .before .if4 .left)))
+
+mask-in-requires : tie.Need-mask-in-requires
+mask-in-requires c κs = search needs
+
+is-kept-requires : tie.Need-is-kept-requires
+is-kept-requires c κs = search needs
+
+returns-6 : tie.Need-returns-6
+returns-6 c =
+    let a = c .before .before .before .before .before .before .before .before .before .before .before .before .before .before .args in
+    let asks = c .before .before .before .before .before .before .question-in .ensures in
+    let kind = ap (λ (q : Question). q .kind) asks in
+    let unused = sym (c .before .before .before .are-unused-zero .ensures ∙ ap unusedAreZero asks) ∙ not-false _ (c .before .before .if5 .left) in
+    let fields = of-its-fields (a .header) (a .front .now) (omega (arith, c .before .before .before .before .before .before .before .before .size-in .ensures, c .before .before .before .before .before .before .before .if3 .left)) (omega (arith, c .before .before .before .before .before .before .before .before .before .before .words-in .ensures, c .before .before .before .before .before .before .before .before .before .if2 .left)) in
+    let mask = c .is-kept .ensures ∙ ap₂ (maskKept (a .header .version)) kind (c .before .mask-in .ensures) in
+    simp (fields, unused, le-leb (getD (a .front .now) 0 0) 4 (omega (arith, kind, c .before .before .before .before .if4 .left))) mask
 
 pub is-good-entry-spec : {M : Type 1} → statement M
 is-good-entry-spec =
@@ -65,4 +81,7 @@ is-good-entry-spec =
     question-in-requires
     returns-4
     are-unused-zero-requires
-    returns-5)
+    returns-5
+    mask-in-requires
+    is-kept-requires
+    returns-6)

@@ -1,9 +1,8 @@
 -- `question_in` meets its contract: each number from its place.
-use mathlib.Core.Path.{_≡_, subst}
+use mathlib.Core.Path.{ap₂, _∙_}
 use Prim.Native.Nat.{ℕ, _+_}
 use lib.ListN.{getD}
 use Rattle.questions.specs.Question.{asking}
-use Rattle.jobs.specs.Format.{behindValue}
 use borrow.Author.Needs.{needs}
 use Rattle.jobs.proofs.entry.question_in.Statement.{statement}
 use Rattle.jobs.proofs.entry.question_in.Tie as tie
@@ -23,6 +22,9 @@ shared-slice-read-join-2 c = search needs
 join-requires : tie.Need-join-requires
 join-requires c κs = search needs
 
+behind-mask-requires : tie.Need-behind-mask-requires
+behind-mask-requires c κs = search needs
+
 shared-slice-read-device : tie.Need-shared-slice-read-device
 shared-slice-read-device c = search needs
 
@@ -37,9 +39,12 @@ ask-requires c κs = search needs
 
 returns : tie.Need-returns
 returns c =
-    let front = c .before .before .before .before .before .before .before .before .before .args .front .now in
-    let h = c .before .before .before .before .before .before .before .before .before .args .header in
-    subst (λ (v : ℕ). c .ask .result ≡ asking (getD front 0 0) (h .n) (h .alive) (getD front 1 0) v (getD front behindValue 0) (getD front (behindValue + 1) 0)) (c .before .before .before .join .ensures) (c .ask .ensures)
+    let a = c .before .before .before .before .before .before .before .before .before .before .args in
+    let front = a .front .now in
+    let h = a .header in
+    c .ask .ensures
+    ∙ ap₂ (λ (v k : ℕ). asking (getD front 0 0) (h .n) (h .alive) (getD front 1 0) v (getD front k 0) (getD front (k + 1) 0))
+    (c .before .before .before .before .join .ensures) (c .before .before .before .behind-mask .ensures)
 
 pub question-in-spec : {M : Type 1} → statement M
 question-in-spec =
@@ -50,6 +55,7 @@ question-in-spec =
     shared-slice-read-join
     shared-slice-read-join-2
     join-requires
+    behind-mask-requires
     shared-slice-read-device
     add-seed
     shared-slice-read-seed

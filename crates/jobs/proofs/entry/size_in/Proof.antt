@@ -18,7 +18,7 @@ mul-result : tie.Need-mul-result
 mul-result c = search needs
 
 add-result : tie.Need-add-result
-add-result c = omega (arith, c .before .field-size .ensures, field-bounds .1)
+add-result c = omega (arith, c .before .field-size .ensures, field-bounds (c .before .before .before .args .version) .1)
 
 returns : tie.Need-returns
 returns c = search needs

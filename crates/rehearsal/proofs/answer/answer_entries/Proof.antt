@@ -33,7 +33,7 @@ answer-entry-requires c κs =
     )
 
 loop-less : tie.Need-loop-less Inv-loop μ-loop
-loop-less c = omega (arith, ap (λ (p : Places). p .at) (c .before .before .before .before .answer-entry .ensures .places), c .before .before .before .before .before .before .before .if1 .taken, field-bounds .0)
+loop-less c = omega (arith, ap (λ (p : Places). p .at) (c .before .before .before .before .answer-entry .ensures .places), c .before .before .before .before .before .before .before .if1 .taken, field-bounds (c .before .before .before .before .before .before .before .before .before .before .before .before .before .before .args .header .version) .0)
 
 loop-again : tie.Need-loop-again Inv-loop μ-loop
 loop-again c =

@@ -27,7 +27,7 @@ count-entry-requires : tie.Need-count-entry-requires Inv-loop μ-loop
 count-entry-requires c κs = (c .if1 .taken, c .before .before .loop .inv .good, c .before .before .loop .inv .slow, parts (c .before .before .before .before .before .args .file .now) (c .before .before .before .before .before .pre .0) .size)
 
 loop-less : tie.Need-loop-less Inv-loop μ-loop
-loop-less c = omega (arith, ap (λ (p : Places). p .at) (c .count-entry .ensures), c .before .if1 .taken, field-bounds .0)
+loop-less c = omega (arith, ap (λ (p : Places). p .at) (c .count-entry .ensures), c .before .if1 .taken, field-bounds (c .before .before .before .before .before .before .args .header .version) .0)
 
 loop-again : tie.Need-loop-again Inv-loop μ-loop
 loop-again c =

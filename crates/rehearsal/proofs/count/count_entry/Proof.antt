@@ -27,7 +27,7 @@ field-size-requires : tie.Need-field-size-requires
 field-size-requires c κs = search needs
 
 add-t9 : tie.Need-add-t9
-add-t9 c = omega (arith, c .before .field-size .ensures, field-bounds .1, c .before .before .before .before .before .before .before .pre .0, c .before .before .before .before .before .before .before .pre .2, c .before .before .before .before .before .before .before .pre .3)
+add-t9 c = omega (arith, c .before .field-size .ensures, field-bounds (c .before .before .before .before .before .before .before .args .header .version) .1, c .before .before .before .before .before .before .before .pre .0, c .before .before .before .before .before .before .before .pre .2, c .before .before .before .before .before .before .before .pre .3)
 
 answer-words-requires : tie.Need-answer-words-requires
 answer-words-requires c κs = search needs
@@ -36,7 +36,7 @@ mul-t11 : tie.Need-mul-t11
 mul-t11 c = omega (arith, c .answer-words .ensures, few-words (c .before .before .before .before .next .given .0 .0 .question))
 
 add-t12 : tie.Need-add-t12
-add-t12 c = omega (arith, c .answer-words .ensures, c .before .before .field-size .ensures, field-bounds .1, few-words (c .before .before .before .before .next .given .0 .0 .question), c .before .before .before .before .before .before .before .before .pre .0, c .before .before .before .before .before .before .before .before .pre .2, c .before .before .before .before .before .before .before .before .pre .3)
+add-t12 c = omega (arith, c .answer-words .ensures, c .before .before .field-size .ensures, field-bounds (c .before .before .before .before .before .before .before .before .args .header .version) .1, few-words (c .before .before .before .before .next .given .0 .0 .question), c .before .before .before .before .before .before .before .before .pre .0, c .before .before .before .before .before .before .before .before .pre .2, c .before .before .before .before .before .before .before .before .pre .3)
 
 returns-2 : tie.Need-returns-2
 returns-2 c =

@@ -37,7 +37,7 @@ field-size-requires : tie.Need-field-size-requires
 field-size-requires c κs = search needs
 
 add-behind : tie.Need-add-behind
-add-behind c = omega (arith, c .field-size .ensures, field-bounds .1, c .before .before .before .before .before .before .before .before .before .before .before .before .before .before .before .before .before .before .before .pre .3)
+add-behind c = omega (arith, c .field-size .ensures, field-bounds (c .before .before .before .before .before .before .before .before .before .before .before .before .before .before .before .before .before .before .before .args .header .version) .1, c .before .before .before .before .before .before .before .before .before .before .before .before .before .before .before .before .before .before .before .pre .3)
 
 array-share-prefix-line : tie.Need-array-share-prefix-line
 array-share-prefix-line c = omega (arith, c .before .before .before .before .before .before .before .before .before .send .ensures .words, few-words (c .before .before .before .before .before .before .before .before .before .before .before .before .before .before .next .given .0 .0 .question), c .before .before .before .before .before .before .before .before .before .send .kept .1 .1 .1 .0, (length-replicate {A = ℕ} 140 0))
@@ -52,7 +52,7 @@ mul-t22 : tie.Need-mul-t22
 mul-t22 c = omega (arith, c .before .before .before .before .before .before .before .before .before .before .before .before .before .send .ensures .words, few-words (c .before .before .before .before .before .before .before .before .before .before .before .before .before .before .before .before .before .before .next .given .0 .0 .question))
 
 add-t27 : tie.Need-add-t27
-add-t27 c = omega (arith, c .before .before .before .before .before .field-size .ensures, field-bounds .1, c .before .before .before .before .before .before .before .before .before .before .before .before .before .send .ensures .words, few-words (c .before .before .before .before .before .before .before .before .before .before .before .before .before .before .before .before .before .before .next .given .0 .0 .question), c .before .before .before .before .before .before .before .before .before .before .before .before .before .before .before .before .before .before .before .before .before .before .before .before .pre .3)
+add-t27 c = omega (arith, c .before .before .before .before .before .field-size .ensures, field-bounds (c .before .before .before .before .before .before .before .before .before .before .before .before .before .before .before .before .before .before .before .before .before .before .before .before .args .header .version) .1, c .before .before .before .before .before .before .before .before .before .before .before .before .before .send .ensures .words, few-words (c .before .before .before .before .before .before .before .before .before .before .before .before .before .before .before .before .before .before .next .given .0 .0 .question), c .before .before .before .before .before .before .before .before .before .before .before .before .before .before .before .before .before .before .before .before .before .before .before .before .pre .3)
 
 same-length : tie.Need-same-length
 same-length c = search needs
@@ -64,8 +64,8 @@ returns-2 : tie.Need-returns-2
 returns-2 c =
     let a = c .before .before .before .before .before .before .before .before .before .before .before .before .before .before .before .before .before .before .before .before .before .before .before .before .args in
     let is = placed (a .header) (a .file .now) (a .places .at) (first-good (a .header) (a .file .now) (a .places .at) (c .before .before .before .before .before .before .before .before .before .before .before .before .before .before .before .before .before .before .before .before .before .before .before .before .pre .0) (c .before .before .before .before .before .before .before .before .before .before .before .before .before .before .before .before .before .before .before .before .before .before .before .before .pre .1)) (c .before .before .before .before .before .before .before .before .before .before .before .before .before .before .before .before .before .before .before .before .next-entry .result) (c .before .before .before .before .before .before .before .before .before .before .before .before .before .before .before .before .before .before .next .given .0 .0) (c .before .before .before .before .before .before .before .before .before .before .before .before .before .before .before .before .before .before .next .given .0 .1 .0) (c .before .before .before .before .before .before .before .before .before .before .before .before .before .before .before .before .before .before .before .before .next-entry .ensures) (c .before .before .before .before .before .before .before .before .before .before .before .before .before .before .before .before .before .before .next .given .1) in
-    answered-one (a .header) (a .file .now) (a .memory .now) _ (c .before .before .before .before .before .before .before .before .before .before .before .before .before .send .last .1 .1 .1 .0) (a .out .now) _ _ (a .places) (c .before .before .before .before .before .before .before .before .before .before .before .before .before .before .before .before .before .before .next .given .0 .0 .question) (c .before .before .before .before .before .before .before .before .before .before .before .before .before .send .result) _ _
-    (ap (λ (e : EntryAt). e .question) (is .entry)) (c .before .before .before .before .before .before .before .before .before .before .before .before .before .send .ensures) (c .before .before .before .before .before .before .before .before .put-fields .ensures) (ap (λ (k : ℕ). a .places .to + k) (c .before .before .before .before .before .field-size .ensures)) (c .before .before .put-words .ensures) (is .after)
+    answered-one (a .header) (a .file .now) (a .memory .now) _ (c .before .before .before .before .before .before .before .before .before .before .before .before .before .send .last .1 .1 .1 .0) (a .out .now) _ _ (a .places) (c .before .before .before .before .before .before .before .before .before .before .before .before .before .before .before .before .before .before .next .given .0 .0 .question) (c .before .before .before .before .before .before .before .before .before .before .before .before .before .before .before .before .before .before .next .given .0 .0 .mask) (c .before .before .before .before .before .before .before .before .before .before .before .before .before .send .result) _ _
+    (ap (λ (e : EntryAt). e .question) (is .entry)) (ap (λ (e : EntryAt). e .mask) (is .entry)) (c .before .before .before .before .before .before .before .before .before .before .before .before .before .send .ensures) (c .before .before .before .before .before .before .before .before .put-fields .ensures) (ap (λ (k : ℕ). a .places .to + k) (c .before .before .before .before .before .field-size .ensures)) (c .before .before .put-words .ensures) (is .after)
 
 pub answer-entry-spec : {M : Type 1} → statement M
 answer-entry-spec =

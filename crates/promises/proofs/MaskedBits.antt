@@ -1,0 +1,123 @@
+-- Only the masked bits decide. A good write of a version 1 file has the mask FFFFh, and what it wrote and what is read have sixteen bits, so that
+-- agreeing in the mask is being equal. Two jobs whose reads agree in the mask leave each device the same letter: the letters' own law.
+use mathlib.Core.Path.{_≡_, refl, sym, ap, subst, _∙_}
+use mathlib.Core.Bool.{true, cond}
+use mathlib.Core.Logic.{inl, inr, ⊎-elim}
+use mathlib.Core.List.{List, [], _∷_, _++_, Forall₂, Forall₂·cons}
+use Prim.Native.Nat.{ℕ, _<_}
+use native.Mathlib.Omega.{arith}
+use lib.Dec.{eqb}
+use lib.ListN.{getD}
+use borrow.Author.Tests.{eqb-true}
+use Rattle.ground.proofs.Test.{and-left, or-cases}
+use Rattle.lines.specs.Line.{bytesOf}
+use Rattle.lines.proofs.Line.{bytes-bytes}
+use Rattle.questions.specs.Question.{writeAll, writeDevice, readAll, goodQuestion, covers}
+use Rattle.readings.specs.Reading.{valuesTaken}
+use Rattle.judging.specs.Judge.{judgeOf}
+use Rattle.acceptance.proofs.Wire.{values-registers}
+use Rattle.masks.specs.Masks.{isWrite, allBits}
+use Rattle.jobs.specs.declared.Header.{Header}
+use Rattle.jobs.specs.Format.{Entry, asked}
+use Rattle.jobs.specs.Encoded.{Fits, Keeps, AllKeep, more, Encodes}
+use Rattle.jobs.proofs.OneEntry.{fields}
+use Rattle.letters.specs.Letters.{Heard, isGoodWrite, valueFor, standingAfter}
+use Rattle.letters.specs.Meaning.{Last, goodWrite, decisive, ownValue, shownMasked, shownWhole, AlikeIn}
+use Rattle.letters.proofs.MaskedBits.{all-bits-are-whole, deserves-by, same-in-masked-bits}
+use Rattle.listening.specs.Listening.{heardOf}
+use Rattle.printing.specs.Text.{decimal, headLine}
+use Rattle.promises.specs.Certificate.{FromReader, DeviceLine, lettered, none, CertificateText}
+use Rattle.promises.specs.MaskedBits.{MaskedBits}
+use Rattle.promises.proofs.OneText.{only-one}
+use Rattle.promises.proofs.OwnLetter.{deserving-below, deserves-alike, same-line}
+
+-- ---- what is heard comes from an entry of the file
+
+module _ (h : Header) where
+  record Source (x : Heard) (after : List Heard) : Type 0 where
+    entry : Entry
+    fits : Fits (h .version) entry
+    rules : Keeps h entry
+    is : x ≡ heardOf h entry
+    later : List Entry
+    keep : AllKeep h later
+    rest : Forall₂ (FromReader h) later after
+
+  source : (before : List Heard) (x : Heard) (after : List Heard) (es : List Entry) → Forall₂ (FromReader h) es (before ++ (x ∷ after))
+      → AllKeep h es → Source x after
+  source [] x after (e ∷ es) (Forall₂·cons from rest) (more _ _ fits rules keep) =
+      record { entry = e; fits = fits; rules = rules; is = only-one h e x from; later = es; keep = keep; rest = rest }
+  source (b ∷ before) x after (e ∷ es) (Forall₂·cons from rest) (more _ _ fits rules keep) = source before x after es rest keep
+
+-- a value that a read hands out has sixteen bits
+own-wide : (h : Header) (e : Entry) (a : ℕ) → ownValue a (heardOf h e) < 65536
+unfolding valueFor
+own-wide h e a =
+    let q = asked h e in
+    values-registers (bytesOf (e .words)) (bytes-bytes (e .words)) (valuesTaken (judgeOf q (e .words) 32)) (cond (eqb (q .kind) readAll) a 0)
+
+-- a good write of a version 1 file is expected to show all bits
+whole-mask : (h : Header) (e : Entry) → h .version ≡ 1 → Keeps h e → isGoodWrite (asked h e) ≡ true → e .mask ≡ allBits
+unfolding isGoodWrite
+whole-mask h e old rules good =
+    let writes = or-cases (eqb (e .kind) writeAll) (eqb (e .kind) writeDevice) (and-left (isWrite (e .kind)) (goodQuestion (asked h e)) good) in
+    rules .whole
+    (⊎-elim (λ is. inl (eqb-true (e .kind) writeAll is)) (λ is. inr (eqb-true (e .kind) writeDevice is)) writes)
+    (omega (arith, old))
+
+-- ---- version 1
+
+module _ (h : Header) (es : List Entry) (file text : List ℕ) (old : h .version ≡ 1) (encoded : Encodes h es file) (c : CertificateText h es text) where
+  abbrev xs : List Heard
+  xs = c .heard
+
+  same-shown : (a : ℕ) (w : Last goodWrite xs) (r : Last (decisive (w .entry .question) a) (w .after))
+      → (shownMasked (w .entry) (ownValue a (r .entry)) → shownWhole (w .entry) (ownValue a (r .entry)))
+      × (shownWhole (w .entry) (ownValue a (r .entry)) → shownMasked (w .entry) (ownValue a (r .entry)))
+  same-shown a w r =
+      let write = source h (w .before) (w .entry) (w .after) es (subst (Forall₂ (FromReader h) es) (w .whole) (c .from-reader)) (encoded .entries) in
+      let read = source h (r .before) (r .entry) (r .after) (write .later) (subst (Forall₂ (FromReader h) (write .later)) (r .whole) (write .rest)) (write .keep) in
+      let good = ap goodWrite (sym (write .is)) ∙ w .passes in
+      let mask : w .entry .mask ≡ allBits = ap (λ (x : Heard). x .mask) (write .is) ∙ whole-mask h (write .entry) old (write .rules) good in
+      let wide : w .entry .question .value < 65536 =
+      subst (λ (x : Heard). x .question .value < 65536) (sym (write .is)) (fields (h .version) (write .entry) (write .fits) .value) in
+      let own : ownValue a (r .entry) < 65536 = subst (λ (x : Heard). ownValue a x < 65536) (sym (read .is)) (own-wide h (read .entry) a) in
+      all-bits-are-whole (w .entry) (ownValue a (r .entry)) mask own wide
+
+  version-1 : (a : ℕ) → DeviceLine shownWhole xs a (c .line a)
+  version-1 a = by-line (c .line a) (c .deserved a)
+    where
+      by-line : (line : List ℕ) → DeviceLine shownMasked xs a line → DeviceLine shownWhole xs a line
+      by-line _ (lettered v due) = lettered v (deserves-by shownMasked shownWhole xs a v (same-shown a) due)
+      by-line _ (none never) =
+          none (λ v due. never v (deserves-by shownWhole shownMasked xs a v (λ w r. (same-shown a w r .1, same-shown a w r .0)) due))
+
+-- ---- the same letter
+
+same-letter : (h h′ : Header) (es es′ : List Entry) (text text′ : List ℕ) (c : CertificateText h es text) (c′ : CertificateText h′ es′ text′)
+    → (a : ℕ) (w : Last goodWrite (c .heard)) (after : List Heard) → c′ .heard ≡ w .before ++ (w .entry ∷ after)
+    → Forall₂ (AlikeIn (w .entry .mask) a) (w .after) after → c .line a ≡ c′ .line a
+same-letter h h′ es es′ text text′ c c′ a w after is alike =
+    let xs = c .heard in
+    let same : a < 32 → Same (c′ .heard) = λ below. subst Same (sym is) (same-in-masked-bits a below xs w after alike) in
+    same-line a xs (c′ .heard)
+    (λ v due. let both = same (deserving-below due) in deserves-alike a v xs (c′ .heard) (both .0) (both .1) due)
+    (λ v due. let both = same (deserving-below due) in deserves-alike a v (c′ .heard) xs (sym (both .0)) (sym (both .1)) due)
+    (c .line a) (c′ .line a) (c .deserved a) (c′ .deserved a)
+  where
+    Same : List Heard → Type 0
+    Same l =
+        (covers (standingAfter (c .heard) .write) a ≡ covers (standingAfter l .write) a)
+        × (getD (standingAfter (c .heard) .letters) a 0 ≡ getD (standingAfter l .letters) a 0)
+
+first-line : (n : ℕ) → headLine 1 n ≡ 0x42 ∷ 0x4D ∷ 0x43 ∷ 0x20 ∷ 0x31 ∷ 0x20 ∷ (decimal n ++ (0x0A ∷ []))
+unfolding headLine decimal
+first-line n = refl
+
+pub masked-bits : MaskedBits
+masked-bits = record {
+  version-1 = version-1;
+  first-line = first-line;
+  same-letter = same-letter;
+  all-sent = λ h kind reg value mask mask′ device seed words. refl;
+}
