@@ -1,7 +1,8 @@
 /*
  * certificate.c: the certificate's text.
  *
- * Written from document 01, 'Job file and certificate'.
+ * Written from document 01, 'Job file and certificate', and document 02, M-100:
+ * the first line shows the file's version.
  */
 #include "certificate.h"
 
@@ -43,7 +44,7 @@ static size_t put_certificate(const uint8_t *file, size_t bytes, char *out)
 {
     struct s_text text = { .out = out, .length = 0 };
     char piece[32];
-    snprintf(piece, sizeof piece, "BMC 1 %u\n", (unsigned)file[5]);
+    snprintf(piece, sizeof piece, "BMC %u %u\n", s_file_version(file), (unsigned)file[5]);
     s_put_text(&text, piece);
     put_entries(&text, file, bytes);
     put_letters(&text, file, bytes);

@@ -2,11 +2,12 @@
  * jobs.c: the job file, its header and its entries.
  *
  * Written from document 01, 'Job file and certificate', and row 14 of 'Turned
- * away'.
+ * away', and from document 02, M-100.
  */
 #include "jobs.h"
 
 #include "line.h"
+#include "masks.h"
 
 /* Sixteen bits, low byte first. */
 unsigned s_two_bytes(const uint8_t *at)
@@ -14,38 +15,53 @@ unsigned s_two_bytes(const uint8_t *at)
     return at[0] | (unsigned)at[1] << 8;
 }
 
-/* The mark BMC, version 1, n, alive. */
+unsigned s_file_version(const uint8_t *file)
+{
+    return s_two_bytes(file + 3);
+}
+
+/* The mark BMC, version 1 or 2, n, alive. */
 static int is_header(const uint8_t *file, size_t bytes)
 {
     if (bytes < S_HEADER_BYTES)
         return 0;
     if (file[0] != 'B' || file[1] != 'M' || file[2] != 'C')
         return 0;
-    if (s_two_bytes(file + 3) != 1)
+    if (s_file_version(file) != 1 && s_file_version(file) != 2)
         return 0;
     return file[5] >= 1 && file[5] <= S_MOST_DEVICES && file[6] <= 1;
 }
 
-/* The entry at a place that has at least S_ENTRY_BYTES left. */
+/* Kind, register, value, mask, device, seed, number of words. */
+static size_t field_bytes(const uint8_t *file)
+{
+    return 1 + 1 + 2 + s_mask_bytes(s_file_version(file)) + 1 + 1 + 2;
+}
+
+/* The entry at a place that has at least its field_bytes left. */
 struct s_entry s_entry_at(const uint8_t *file, size_t at)
 {
     const uint8_t *e = file + at;
+    size_t mask_bytes = s_mask_bytes(s_file_version(file));
     struct s_entry entry;
     entry.q.kind = e[0];
     entry.q.n = file[5];
     entry.q.alive = file[6];
     entry.q.reg = e[1];
     entry.q.value = s_two_bytes(e + 2);
+    entry.mask = mask_bytes == 0 ? s_unsaid_mask(e[0]) : s_two_bytes(e + 4);
+    e += mask_bytes;
     entry.q.device = e[4];
     entry.q.seed = e[5];
     entry.words = s_two_bytes(e + 6);
-    entry.answer = e + S_ENTRY_BYTES;
+    entry.field_bytes = field_bytes(file);
+    entry.answer = file + at + entry.field_bytes;
     return entry;
 }
 
 size_t s_entry_size(struct s_entry entry)
 {
-    return S_ENTRY_BYTES + 2 * entry.words;
+    return entry.field_bytes + 2 * entry.words;
 }
 
 /* A field its kind does not use is 0; the seed too where alive is off. */
@@ -62,11 +78,12 @@ static int are_unused_zero(struct s_question q)
 static int is_entry(const uint8_t *file, size_t bytes, size_t at)
 {
     struct s_entry entry;
-    if (bytes - at < S_ENTRY_BYTES)
+    if (bytes - at < field_bytes(file))
         return 0;
     entry = s_entry_at(file, at);
     return entry.q.kind <= 4 && entry.words <= S_MOST_WORDS
-        && s_entry_size(entry) <= bytes - at && are_unused_zero(entry.q);
+        && s_entry_size(entry) <= bytes - at && are_unused_zero(entry.q)
+        && s_is_mask(entry.q.kind, entry.mask);
 }
 
 int s_is_job_file(const uint8_t *file, size_t bytes)

@@ -2,11 +2,12 @@
  * letters.c: the letters, which say of each device whether it holds what the
  * last write set.
  *
- * Written from document 01, 'Job file and certificate'.
+ * Written from document 01, 'Job file and certificate', and document 02, M-100.
  */
 #include "letters.h"
 
 #include "line.h"
+#include "masks.h"
 #include "reader.h"
 
 /* An entry's answer, read with room for 32 values. */
@@ -33,12 +34,12 @@ size_t s_last_write(const uint8_t *file, size_t bytes)
 
 /* What an accepted read says of the devices it covers. */
 static void mark(struct s_question read, const uint16_t *values,
-                 unsigned written, char letters[S_MOST_DEVICES])
+                 struct s_entry write, char letters[S_MOST_DEVICES])
 {
     for (unsigned device = 0; device < read.n; device++)
         if (s_covers(read, device)) {
             uint16_t value = values[read.kind == S_READALL ? device : 0];
-            letters[device] = value == written ? 'S' : 'O';
+            letters[device] = s_letter(write.mask, value, write.q.value);
         }
 }
 
@@ -56,6 +57,6 @@ void s_judge(const uint8_t *file, size_t bytes, size_t write_at,
         if (!s_is_read(entry.q.kind) || entry.q.reg != write.q.reg)
             continue;
         if (s_read_entry(entry, values) == S_ACCEPTED)
-            mark(entry.q, values, write.q.value, letters);
+            mark(entry.q, values, write, letters);
     }
 }

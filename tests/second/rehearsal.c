@@ -22,18 +22,22 @@ static size_t through_chain(struct s_question q, uint16_t *memory, uint16_t *lin
     return words;
 }
 
-/* The entry's question, and these words for its answer. */
-static void put_entry(const uint8_t *entry, const uint16_t *line, size_t words,
-                      uint8_t *out)
+static void put_two(uint8_t *out, size_t figure)
 {
-    for (size_t i = 0; i < 6; i++)
+    out[0] = (uint8_t)figure;
+    out[1] = (uint8_t)(figure >> 8);
+}
+
+/* The entry as it stood up to its number of words, and these words for its
+ * answer. */
+static void put_entry(const uint8_t *entry, size_t field_bytes,
+                      const uint16_t *line, size_t words, uint8_t *out)
+{
+    for (size_t i = 0; i < field_bytes - 2; i++)
         out[i] = entry[i];
-    out[6] = (uint8_t)words;
-    out[7] = (uint8_t)(words >> 8);
-    for (size_t i = 0; i < words; i++) {
-        out[S_ENTRY_BYTES + 2 * i] = (uint8_t)line[i];
-        out[S_ENTRY_BYTES + 2 * i + 1] = (uint8_t)(line[i] >> 8);
-    }
+    put_two(out + field_bytes - 2, words);
+    for (size_t i = 0; i < words; i++)
+        put_two(out + field_bytes + 2 * i, line[i]);
 }
 
 /* Answers a good job file into a whole file's room; 0 when it is too long. */
@@ -49,10 +53,11 @@ static size_t answer_file(const uint8_t *file, size_t bytes,
     for (size_t at = S_HEADER_BYTES; at < bytes; at += s_entry_size(entry)) {
         entry = s_entry_at(file, at);
         size_t words = through_chain(entry.q, memory, line);
-        if (length + S_ENTRY_BYTES + 2 * words > S_MOST_FILE_BYTES)
+        size_t size = entry.field_bytes + 2 * words;
+        if (length + size > S_MOST_FILE_BYTES)
             return 0;
-        put_entry(file + at, line, words, answered + length);
-        length += S_ENTRY_BYTES + 2 * words;
+        put_entry(file + at, entry.field_bytes, line, words, answered + length);
+        length += size;
     }
     return length;
 }

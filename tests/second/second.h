@@ -1,8 +1,9 @@
 /*
  * second.h: an independent reference for the battery-bench line.
  *
- * Written from documents 01 (scope and rules) and 004 (MAX17823B data sheet)
- * and the readings in docs/DECISIONS.md; shares no code with the proved crates.
+ * Written from documents 01 (scope and rules), 02 (changes to them) and 004
+ * (MAX17823B data sheet) and the readings in docs/DECISIONS.md; shares no code
+ * with the proved crates.
  * It exists to be compared with them: plain and obvious rather than fast, no
  * table beyond what the documents print, and no memory but the caller's and
  * the stack.

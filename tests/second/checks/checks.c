@@ -5,7 +5,7 @@
  * example; 004's register table, its packet sizes (Table 22) and its packets
  * (Tables 25 to 29) as far as they are definite; then round trips through the
  * twin chain, and the refusals in their order. Written, like the program that
- * is checked, from documents 01 and 004 and the readings in docs/DECISIONS.md;
+ * is checked, from documents 01, 02 and 004 and the readings in docs/DECISIONS.md;
  * shares no code with the proved crates. Prints how many checks ran and how
  * many failed.
  */

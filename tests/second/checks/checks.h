@@ -27,7 +27,8 @@
     part(certificate) \
     part(job_files)   \
     part(rehearsals)  \
-    part(runs)
+    part(runs)        \
+    part(masks)
 
 #define DECLARE(name) void check_##name(void);
 PARTS(DECLARE)
@@ -80,8 +81,11 @@ extern uint8_t job[JOB_ROOM];
 extern size_t job_bytes;
 extern uint8_t rehearsed[JOB_ROOM];
 extern char text[TEXT_ROOM];
-void begin(unsigned n, unsigned alive);
+void begin(unsigned n, unsigned alive);             /* of version 1 */
+void begin_version(unsigned version, unsigned n, unsigned alive);
 void add(struct s_question q, const uint16_t *line, size_t words);
+void add_masked(struct s_question q, unsigned mask, const uint16_t *line, size_t words);
+struct s_question job_question(unsigned n, unsigned alive);
 void add_bare(unsigned kind, unsigned reg, unsigned value, unsigned device,
               unsigned seed);
 void add_bytes(struct s_question q, const uint8_t *bytes, size_t n);

@@ -13,25 +13,52 @@ size_t job_bytes;
 uint8_t rehearsed[JOB_ROOM];
 char text[TEXT_ROOM];
 
-void begin(unsigned n, unsigned alive)
+static void put(size_t byte)
 {
-    const uint8_t header[] = { 'B', 'M', 'C', 1, 0, (uint8_t)n, (uint8_t)alive };
-    memcpy(job, header, 7);
-    job_bytes = 7;
+    job[job_bytes++] = (uint8_t)byte;
 }
 
+static void put_two(size_t figure)
+{
+    put(figure);
+    put(figure >> 8);
+}
+
+void begin(unsigned n, unsigned alive)
+{
+    begin_version(1, n, alive);
+}
+
+void begin_version(unsigned version, unsigned n, unsigned alive)
+{
+    job_bytes = 0;
+    put('B');
+    put('M');
+    put('C');
+    put_two(version);
+    put(n);
+    put(alive);
+}
+
+/* In version 2 a write is expected to show all its bits. */
 void add(struct s_question q, const uint16_t *line, size_t words)
 {
-    const uint8_t head[] = {
-        (uint8_t)q.kind, (uint8_t)q.reg, (uint8_t)q.value, (uint8_t)(q.value >> 8),
-        (uint8_t)q.device, (uint8_t)q.seed, (uint8_t)words, (uint8_t)(words >> 8)
-    };
-    memcpy(job + job_bytes, head, 8);
-    job_bytes += 8;
-    for (size_t i = 0; i < words; i++) {
-        job[job_bytes++] = (uint8_t)line[i];
-        job[job_bytes++] = (uint8_t)(line[i] >> 8);
-    }
+    add_masked(q, q.kind == 1 || q.kind == 2 ? 0xFFFF : 0, line, words);
+}
+
+/* Only version 2 has a place for the mask. */
+void add_masked(struct s_question q, unsigned mask, const uint16_t *line, size_t words)
+{
+    put(q.kind);
+    put(q.reg);
+    put_two(q.value);
+    if (job[3] == 2)
+        put_two(mask);
+    put(q.device);
+    put(q.seed);
+    put_two(words);
+    for (size_t i = 0; i < words; i++)
+        put_two(line[i]);
 }
 
 void add_bare(unsigned kind, unsigned reg, unsigned value, unsigned device,
@@ -39,6 +66,21 @@ void add_bare(unsigned kind, unsigned reg, unsigned value, unsigned device,
 {
     struct s_question q = { kind, job[5], job[6], reg, value, device, seed };
     add(q, NULL, 0);
+}
+
+/* A question whose unused fields are 0. */
+struct s_question job_question(unsigned n, unsigned alive)
+{
+    struct s_question q = any_question(any(5), n, alive);
+    if (q.kind == 0)
+        q.reg = 0;
+    if (q.kind != 1 && q.kind != 2)
+        q.value = 0;
+    if (q.kind != 2 && q.kind != 4)
+        q.device = 0;
+    if (q.kind == 0 || !alive)
+        q.seed = 0;
+    return q;
 }
 
 /* A right answer, with these values in wire order. */

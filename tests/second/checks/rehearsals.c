@@ -89,11 +89,8 @@ static void check_rehearsal_accepted(void)
     for (unsigned run = 0; run < 200; run++) {
         unsigned n = 1 + any(32), alive = any(2), entries = any(30);
         begin(n, alive);
-        for (unsigned i = 0; i < entries; i++) {
-            unsigned kind = any(5), one = kind == 2 || kind == 4, write = kind == 1 || kind == 2;
-            add_bare(kind, kind ? any(256) : 0, write ? any(65536) : 0,
-                     one ? any(n) : 0, kind && alive ? any(256) : 0);
-        }
+        for (unsigned i = 0; i < entries; i++)
+            add(job_question(n, alive), NULL, 0);
         size_t written = 0, at = 0;
         check(rehearse_job() == 0, "rehearsed");
         check(s_certificate(job, job_bytes, text, sizeof text, &written) == 0, "good file");
