@@ -194,11 +194,18 @@ struct job {
     size_t entry_count;
 };
 
-void put_header(struct job *j, unsigned n, unsigned alive);
-void put_entry(struct job *j, struct s_question q, const uint16_t *words, size_t count);
-void put_any_job(struct job *j);
+enum { MASK_NONE = 0, MASK_ALL = 0xFFFF };
+unsigned some_version(void);                        /* 1 or 2 */
+unsigned some_mask(unsigned kind);                  /* one that the kind may have */
+struct s_question clear_unused(struct s_question q);
+size_t field_bytes(const struct job *j);            /* of an entry before its words */
+void put_header(struct job *j, unsigned version, unsigned n, unsigned alive);
+/* Only a file of version 2 has a place for the mask. */
+void put_entry(struct job *j, struct s_question q, unsigned mask,
+               const uint16_t *words, size_t count);
+void put_any_job(struct job *j, unsigned version);
 void put_empty_entries(struct job *j, size_t up_to);
-void put_full_job(struct job *j, unsigned alive);
+void put_full_job(struct job *j, unsigned version, unsigned alive);
 
 /* ---- The calls, each compared with the reference ------------------------ */
 
@@ -245,6 +252,7 @@ void try_nearly_right_chains(struct chain *c);
     part("cells", try_cells)                   \
     part("twin", try_twin)                     \
     part("certificates", try_certificates)     \
+    part("masked bits", try_masked)            \
     part("whole chains", try_runs)
 
 #define DECLARE(name, run) void run(void);

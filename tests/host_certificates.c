@@ -95,13 +95,13 @@ static struct job job;
 
 static void try_good(void)
 {
-    put_any_job(&job);
+    put_any_job(&job, some_version());
     try_each_room(job.bytes, job.count);
 }
 
 static void try_prefixes(void)
 {
-    put_any_job(&job);
+    put_any_job(&job, some_version());
     for (size_t cut = 0; cut <= job.count; cut++)
         try_any_room(job.bytes, cut);
 }
@@ -112,13 +112,14 @@ static size_t some_place(void)
     if (job.entry_count == 0 || any(8) == 0)
         return any(7);
     if (any(2) == 0)
-        return job.entries[any((unsigned)job.entry_count)] + any(8);
+        return job.entries[any((unsigned)job.entry_count)]
+            + any((unsigned)field_bytes(&job));
     return any((unsigned)job.count);
 }
 
 static void try_spoiled(void)
 {
-    put_any_job(&job);
+    put_any_job(&job, some_version());
     for (unsigned left = between(1, 3); left > 0; left--) {
         uint8_t *byte = &job.bytes[some_place()];
         *byte = any(2) == 0 ? other_byte(*byte) : (uint8_t)(*byte ^ 1u << any(8));
@@ -132,10 +133,10 @@ static void try_word_counts(void)
     static uint16_t words[150];
     struct s_question q = { .kind = BMC_READALL, .reg = 0x12 };
     unsigned count = between(136, 144);
-    put_any_job(&job);
-    put_entry(&job, q, words, count);
+    put_any_job(&job, some_version());
+    put_entry(&job, q, MASK_NONE, words, count);
     if (any(2) == 0)
-        put_entry(&job, q, words, any(20));
+        put_entry(&job, q, MASK_NONE, words, any(20));
     unsigned number = count <= 140 ? BMC_ACCEPTED : BMC_FILE;
     uint32_t result = compare_certificate(job.bytes, job.count, BMC_CERTIFICATE_MOST);
     must(BMC_NUMBER(result) == number, "an entry has 140 words at most");
@@ -146,14 +147,20 @@ static void try_each_header(void)
 {
     for (unsigned place = 0; place < 7; place++)
         for (unsigned byte = 0; byte < 256; byte++) {
-            put_header(&job, between(1, 32), any(2));
+            put_header(&job, some_version(), between(1, 32), any(2));
             job.bytes[place] = (uint8_t)byte;
             try_any_room(job.bytes, job.count);
         }
 }
 
+/* Either byte of it 0 or not. */
+static unsigned any_mask(void)
+{
+    return any(2) * between(1, 255) + any(2) * between(1, 255) * 256;
+}
+
 /* An entry of each kind, good and bad, with each of its fields 0 or not. */
-static void try_fields(unsigned kind, unsigned alive)
+static void try_fields(unsigned version, unsigned kind, unsigned alive)
 {
     for (unsigned set = 0; set < 32; set++) {
         struct s_question q = {
@@ -163,18 +170,19 @@ static void try_fields(unsigned kind, unsigned alive)
             .device = (set >> 3 & 1) * between(1, 255),
             .seed = (set >> 4 & 1) * between(1, 255)
         };
-        put_header(&job, between(1, 32), alive);
-        put_entry(&job, q, NULL, 0);
+        put_header(&job, version, between(1, 32), alive);
+        put_entry(&job, q, any_mask(), NULL, 0);
         try_any_room(job.bytes, job.count);
     }
 }
 
 static void try_each_kind(void)
 {
-    for (unsigned kind = 0; kind < 256; kind++) {
-        try_fields(kind, 0);
-        try_fields(kind, 1);
-    }
+    for (unsigned kind = 0; kind < 256; kind++)
+        for (unsigned version = 1; version <= 2; version++) {
+            try_fields(version, kind, 0);
+            try_fields(version, kind, 1);
+        }
 }
 
 /* Random bytes: from the start, behind a good header, or small ones behind a
@@ -182,7 +190,7 @@ static void try_each_kind(void)
 static void try_random(void)
 {
     unsigned sort = any(3);
-    put_header(&job, between(1, 32), any(2));
+    put_header(&job, some_version(), between(1, 32), any(2));
     if (sort == 0)
         job.count = 0;
     for (unsigned left = any(120); left > 0; left--)
@@ -199,38 +207,49 @@ static void must_be(const struct job *j, size_t bytes, unsigned number)
     must(BMC_NUMBER(result) == number, "not the number that was meant");
 }
 
-/* 8,191 entries are 65,535 bytes; an entry has an even length, so 65,536 bytes
- * are never a good file, and 65,537 are one but for their number. */
-static void try_longest(unsigned n, unsigned alive)
+/* The last entry with so many words. */
+static void put_last(size_t words)
 {
-    static const uint16_t word = 0xE2A;
+    static const uint16_t preamble[5] = { 0xE2A };
     struct s_question q = { .kind = BMC_HELLOALL };
-    put_header(&job, n, alive);
+    job.count = job.entries[--job.entry_count];
+    put_entry(&job, q, MASK_NONE, preamble, words);
+}
+
+/* 8,191 entries of version 1 are 65,535 bytes, and so are 6,552 of version 2, the
+ * last with four words; an entry has an even length, so 65,536 bytes are never a
+ * good file, and 65,537 are one but for their number. */
+static void try_longest(unsigned version, unsigned n, unsigned alive)
+{
+    size_t words = version == 1 ? 0 : 4;
+    put_header(&job, version, n, alive);
     put_empty_entries(&job, BMC_FILE_MOST_BYTES);
-    must(job.entry_count == 8191, "not the number of entries that was meant");
+    must(job.entry_count == (version == 1 ? 8191 : 6552),
+         "not the number of entries that was meant");
+    put_last(words);
     must_be(&job, 65535, BMC_ACCEPTED);
     try_each_room(job.bytes, job.count);
     job.bytes[job.count++] = 0;
     must_be(&job, 65536, BMC_FILE);
-    job.count = job.entries[--job.entry_count];
-    put_entry(&job, q, &word, 1);
+    put_last(words + 1);
     must_be(&job, 65537, BMC_FILE);
 }
 
-static void try_full(unsigned alive)
+static void try_full(unsigned version, unsigned alive)
 {
-    put_full_job(&job, alive);
+    put_full_job(&job, version, alive);
     try_most_room(job.bytes, job.count);
     try_each_room(job.bytes, job.count);
 }
 
 static void try_long_files(void)
 {
-    for (unsigned alive = 0; alive <= 1; alive++) {
-        try_longest(1, alive);
-        try_longest(between(2, 32), alive);
-        try_full(alive);
-    }
+    for (unsigned version = 1; version <= 2; version++)
+        for (unsigned alive = 0; alive <= 1; alive++) {
+            try_longest(version, 1, alive);
+            try_longest(version, between(2, 32), alive);
+            try_full(version, alive);
+        }
 }
 
 /* ---- The part ----------------------------------------------------------- */

@@ -1,6 +1,6 @@
 /*
  * host_jobs.c: job files for the certificate, built field by field from
- * document 01's 'Job file and certificate'.
+ * document 01's 'Job file and certificate' and, for version 2, document 02's M-100.
  *
  * Registers and values come from a few figures, so that reads meet the write
  * they follow, and writes and reads differ in letters S, O and U.
@@ -18,24 +18,37 @@ static void put_two(struct job *j, unsigned figure)
     put(j, figure >> 8);
 }
 
-void put_header(struct job *j, unsigned n, unsigned alive)
+void put_header(struct job *j, unsigned version, unsigned n, unsigned alive)
 {
     j->count = 0;
     j->entry_count = 0;
     put(j, 'B');
     put(j, 'M');
     put(j, 'C');
-    put_two(j, 1);
+    put_two(j, version);
     put(j, n);
     put(j, alive);
 }
 
-void put_entry(struct job *j, struct s_question q, const uint16_t *words, size_t count)
+static int has_masks(const struct job *j)
+{
+    return j->bytes[3] == 2;
+}
+
+size_t field_bytes(const struct job *j)
+{
+    return has_masks(j) ? 10 : 8;
+}
+
+void put_entry(struct job *j, struct s_question q, unsigned mask,
+               const uint16_t *words, size_t count)
 {
     j->entries[j->entry_count++] = j->count;
     put(j, q.kind);
     put(j, q.reg);
     put_two(j, q.value);
+    if (has_masks(j))
+        put_two(j, mask);
     put(j, q.device);
     put(j, q.seed);
     put_two(j, (unsigned)count);
@@ -46,7 +59,7 @@ void put_entry(struct job *j, struct s_question q, const uint16_t *words, size_t
 /* ---- Questions ---------------------------------------------------------- */
 
 /* Unused fields are 0. */
-static struct s_question clear_unused(struct s_question q)
+struct s_question clear_unused(struct s_question q)
 {
     if (q.kind == BMC_HELLOALL)
         q.reg = 0;
@@ -67,6 +80,23 @@ static unsigned few_registers(void)
 static unsigned few_values(void)
 {
     return any(8) == 0 ? any(65536) : any(4) == 0 ? 0x0000 : 0x000F;
+}
+
+/* All bits, one, all but one, or any; 0 for what is no write. */
+unsigned some_mask(unsigned kind)
+{
+    if (!is_write(kind))
+        return MASK_NONE;
+    switch (any(4)) {
+    case 0:
+        return MASK_ALL;
+    case 1:
+        return 1u << any(16);
+    case 2:
+        return MASK_ALL ^ 1u << any(16);
+    default:
+        return between(1, MASK_ALL);
+    }
 }
 
 static struct s_question job_question(const struct job *j)
@@ -126,7 +156,7 @@ static void put_any_entry(struct job *j)
     default:
         put_few_answer(&r, q);
     }
-    put_entry(j, q, r.words, r.word_count);
+    put_entry(j, q, some_mask(q.kind), r.words, r.word_count);
 }
 
 /* ---- Files -------------------------------------------------------------- */
@@ -136,9 +166,14 @@ static unsigned some_n(void)
     return any(4) == 0 ? between(1, 32) : between(1, 5);
 }
 
-void put_any_job(struct job *j)
+unsigned some_version(void)
 {
-    put_header(j, some_n(), any(2));
+    return between(1, 2);
+}
+
+void put_any_job(struct job *j, unsigned version)
+{
+    put_header(j, version, some_n(), any(2));
     for (unsigned entries = any(12); entries > 0; entries--)
         put_any_entry(j);
 }
@@ -146,23 +181,25 @@ void put_any_job(struct job *j)
 /* Entries without an answer, while they fit. */
 void put_empty_entries(struct job *j, size_t up_to)
 {
-    while (j->count + 8 <= up_to)
-        put_entry(j, job_question(j), NULL, 0);
+    while (j->count + field_bytes(j) <= up_to) {
+        struct s_question q = job_question(j);
+        put_entry(j, q, some_mask(q.kind), NULL, 0);
+    }
 }
 
 /* 32 devices, a WRITEALL and READALL answers while they fit, then empty entries
  * while they fit. */
-void put_full_job(struct job *j, unsigned alive)
+void put_full_job(struct job *j, unsigned version, unsigned alive)
 {
     static struct reply r;
     struct s_question q = { .kind = BMC_WRITEALL, .n = 32, .alive = alive,
                             .reg = 0x12, .value = 0x000F };
-    put_header(j, 32, alive);
+    put_header(j, version, 32, alive);
     for (;;) {
         put_few_answer(&r, clear_unused(q));
-        if (j->count + 8 + 2 * r.word_count > BMC_FILE_MOST_BYTES)
+        if (j->count + field_bytes(j) + 2 * r.word_count > BMC_FILE_MOST_BYTES)
             break;
-        put_entry(j, r.q, r.words, r.word_count);
+        put_entry(j, r.q, some_mask(r.q.kind), r.words, r.word_count);
         q.kind = BMC_READALL;
         q.seed = any(256);
     }

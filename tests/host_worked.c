@@ -173,15 +173,15 @@ static void try_worked_certificate(void)
     struct s_question write = { .kind = BMC_WRITEALL, .n = 2, .reg = 0x12,
                                 .value = 0x000F };
     struct s_question read = { .kind = BMC_READALL, .n = 2, .reg = 0x12 };
-    put_header(&j, 2, 0);
+    put_header(&j, 1, 2, 0);
     put_right_answer(&r, write);
-    put_entry(&j, write, r.words, r.word_count);
+    put_entry(&j, write, MASK_ALL, r.words, r.word_count);
     set_question_of(&r, read);
     r.values[0] = 0x000F;
     r.values[1] = 0x0000;
     put_right_bytes(&r);
     put_words(&r);
-    put_entry(&j, read, r.words, r.word_count);
+    put_entry(&j, read, MASK_NONE, r.words, r.word_count);
     uint32_t result = compare_certificate(j.bytes, j.count, sizeof text - 1);
     must(result == (sizeof text - 1) << 8, "not the worked certificate");
     must(memcmp(certificate_text(), text, sizeof text - 1) == 0,
