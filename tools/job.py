@@ -3,9 +3,10 @@
 `job write` turns lines of text into a job file, `job show` prints a job file
 as such lines; writing what was shown gives the same bytes again. The format
 and the answers are those of document 01 ('The line', 'Commands and answers',
-'Job file and certificate'), the PEC and the registers' names those of data
-sheet 004. Nothing here judges an answer: that is the certificate program's
-work. What is read stands on descriptor 3, where ./job puts standard input.
+'Job file and certificate'), version 2 of the format that of document 02, the PEC
+and the registers' names those of data sheet 004. Nothing here judges an answer:
+that is the certificate program's work. What is read stands on descriptor 3, where
+./job puts standard input.
 """
 import os
 import re
@@ -19,7 +20,8 @@ usage: job write < plan.txt > plan.bmc     words to a job file
 
 A plan, with all that may stand in one:
 
-  chain 2 alive                    # 1 to 32 devices; 'alive' if its byte is on
+  chain 2 alive version 2          # 1 to 32 devices; 'alive' if its byte is on;
+                                   # 'version 2' for masks, left out it is 1
   helloall                         # the questions, one a line, in their order
     answer right 2                 # what came back: here the count
   writeall 12h = 000Fh seed F0h    # seed only with alive; left out it is 00h
@@ -29,28 +31,30 @@ A plan, with all that may stand in one:
     turn 5.3 5.4                   # damage: turn over bits 3 and 4 of word 5
   readdevice 1 MEASUREEN           # 12h by its name in data sheet 004
     answer bytes 0D 12 0F 00 20 pec 01   # any bytes; pec: of those before it
-  writedevice 1 12h = 000Fh
+  writedevice 1 13h = 0025h mask 1FFEh seed 02h   # the bits that a read has to
+                                   # show for an S; left out they are all, FFFFh
     answer words E2A D54 EA8       # any words, as they came
   readall 12h                      # no answer line: no words came back
 
-12h and 0x12 are hexadecimal. Registers, values and seeds of more than one digit
-are marked so: 12 alone is a mistake. Devices and their counts are decimal: 12 is
-twelve; the numbers after 'answer bytes' and 'answer words' are hexadecimal. A
-long answer may go on over several lines of one form. Upper and lower case are
+12h and 0x12 are hexadecimal. Registers, values, masks and seeds of more than one
+digit are marked so: 12 alone is a mistake. Devices and their counts are decimal:
+12 is twelve; the numbers after 'answer bytes' and 'answer words' are hexadecimal.
+A long answer may go on over several lines of one form. Upper and lower case are
 the same. Words, their bits and the bytes of a file count from 0.
 
 status: 0 done; 1 not a plan or not a job file, or not read or written, with the
 reason; 2 not called like this
 """
 
-Ask = namedtuple('Ask', 'kind register value device seed')
+Ask = namedtuple('Ask', 'kind register value mask device seed')
 KINDS = ('helloall', 'writeall', 'writedevice', 'readall', 'readdevice')
 HELLOALL, WRITEALL, WRITEDEVICE, READALL, READDEVICE = range(5)
+WRITES = (WRITEALL, WRITEDEVICE)
 # What each kind's line says after its name. These are also the only fields of
-# an entry, besides the seed, that may be other than 0.
+# an entry, besides a write's mask and the seed, that may be other than 0.
 PARTS = ((), ('register', '=', 'value'), ('device', 'register', '=', 'value'),
          ('register',), ('device', 'register'))
-DEVICES_MOST, WORDS_MOST, FILE_MOST = 32, 140, 65536
+DEVICES_MOST, WORDS_MOST, FILE_MOST, ALL_BITS = 32, 140, 65536, 0xFFFF
 FORMS = {'right': 32, 'bytes': 69, 'words': 140}  # of answers, with what fills 140 words
 TEXT_MOST = 1 << 22  # ours: many times what `show` prints for the longest file
 # The rows of data sheet 004's register table, each with the address it begins at.
@@ -68,10 +72,18 @@ NAMES = {first + i: name for first, row in NAMED for i, name in enumerate(row.sp
 NUMBERS = {name.lower(): address for address, name in NAMES.items()}
 INPUT, OUTPUT, COMPLAINTS = 3, 1, 2  # descriptors
 HEADER = struct.Struct('<3sHBB')  # mark, version, n, alive
-ENTRY = struct.Struct('<BBHBBH')  # kind, register, value, device, seed, words
+# By the file's version: what an entry has before its words, and where each stands.
+ENTRY = {1: struct.Struct('<BBHBBH'), 2: struct.Struct('<BBHHBBH')}
+PLACES = {1: dict(kind=0, register=1, value=2, device=4, seed=5, words=6),
+          2: dict(kind=0, register=1, value=2, mask=4, device=6, seed=7, words=8)}
 
 class Wrong(Exception):
     """Where something is wrong, what it is, and what would be right."""
+
+def asked(kind, **fields):
+    """What is not said is 0, but for a write's mask, which is all bits."""
+    unsaid = dict.fromkeys(Ask._fields, 0) | {'mask': ALL_BITS if kind in WRITES else 0}
+    return Ask(**unsaid | fields | {'kind': kind})
 
 # The line: characters, bytes and the PEC
 def character(data):
@@ -160,37 +172,46 @@ def statements(text):
             yield line, [word.decode('latin-1') for word in words]  # takes any byte
 
 def chain(line, tokens):
-    right = "'chain 2' or 'chain 2 alive', with 1 to 32 devices"
+    right = "'chain 2', 'chain 2 alive' or 'chain 2 alive version 2', with 1 to 32 devices"
     if tokens[:1] != ['chain']:
         what = quote(tokens[0]) + ' before the' if tokens else 'no'
         fail(line, f'{what} chain line: begin with {right}')
-    if len(tokens) < 2 or tokens[2:] not in ([], ['alive']):
+    alive, version = tokens[2:], '1'
+    if alive[-2:-1] == ['version']:
+        *alive, _, version = alive
+    if len(tokens) < 2 or alive not in ([], ['alive']):
         fail(line, f'the chain line is written {right}')
-    return number(line, tokens[1], 'device count', DEVICES_MOST, 1), len(tokens) == 3
+    if version not in map(str, ENTRY):
+        fail(line, f'version {quote(version)} is not 1 or 2')
+    n = number(line, tokens[1], 'device count', DEVICES_MOST, 1)
+    return n, bool(alive), int(version)
 
-def question(line, tokens, alive):
+def question(line, tokens, alive, version):
     name, *rest = tokens
     if name not in KINDS:
         right = 'helloall, writeall, writedevice, readall or readdevice'
         fail(line, f'{quote(name)} is no question: {right}' if name != 'chain' else
              'a second chain line: a job file has one chain, named first')
-    fields = dict.fromkeys(Ask._fields, 0)  # what a kind does not use stays 0
-    fields['kind'] = kind = KINDS.index(name)
+    kind, fields = KINDS.index(name), {}
     if 'seed' in rest and (kind == HELLOALL or not alive):
         fail(line, "helloall has no alive byte: take 'seed' away" if kind == HELLOALL else
              "a seed, but alive is off: take it away, or put 'alive' on the chain line")
-    if rest[-2:-1] == ['seed']:
-        *rest, _, seed = rest
-        fields['seed'] = number(line, seed, 'seed', 0xFF)
+    if 'mask' in rest and (kind not in WRITES or 'mask' not in PLACES[version]):
+        fail(line, f"a mask, but {name} writes nothing: take it away" if kind not in WRITES else
+             "a mask, but in version 1: take it away, or put 'version 2' last on the chain line")
+    for part, least, most in (('seed', 0, 0xFF), ('mask', 1, ALL_BITS)):
+        if rest[-2:-1] == [part]:
+            *rest, _, token = rest
+            fields[part] = number(line, token, part, most, least)
     if [token == '=' for token in rest] != [part == '=' for part in PARTS[kind]]:
-        sample = question_text(Ask(kind, 0x12, 0x000F, 1, 0xF0), alive)
+        sample = question_text(Ask(kind, 0x12, 0x000F, 0x0FFF, 1, 0xF0), alive, version)
         fail(line, f"{name} is written like '{sample}'")
     for part, token in zip(PARTS[kind], rest):
         if part != '=':
             most = 0xFFFF if part == 'value' else 0xFF
             named = part == 'register' and token in NUMBERS
             fields[part] = NUMBERS[token] if named else number(line, token, part, most)
-    return Ask(**fields)
+    return asked(kind, **fields)
 
 def right_answer(line, items, ask, n, alive):
     """`line` is where the answer ends; each item brings its own."""
@@ -250,12 +271,17 @@ def answer(lines, ask, n, alive):
         turn_over(words, line, token)
     return words
 
+def entry_bytes(ask, words, version):
+    fields = ask._asdict() | {'words': len(words)}
+    head = ENTRY[version].pack(*(fields[name] for name in PLACES[version]))
+    return head + struct.pack(f'<{len(words)}H', *words)
+
 def write(text):
     """The job file's bytes, and a warning for each device beyond the chain."""
     if len(text) > TEXT_MOST:
         fail(text.count(b'\n') + 1, f'the text is over {TEXT_MOST:,} bytes, the most')
     first, *rest = [*statements(text)] or [(1, [])]
-    n, alive = chain(*first)
+    n, alive, version = chain(*first)
     entries = []
     for line, tokens in rest:
         if tokens[0] not in ('answer', 'turn'):
@@ -264,11 +290,11 @@ def write(text):
             entries[-1][2].append((line, tokens))
         else:
             fail(line, f"'{tokens[0]}' before any question: it stands under its question")
-    out, warnings = HEADER.pack(b'BMC', 1, n, alive), ''
+    out, warnings = HEADER.pack(b'BMC', version, n, alive), ''
     for i, (line, tokens, below) in enumerate(entries, 1):
-        ask = question(line, tokens, alive)
+        ask = question(line, tokens, alive, version)
         words = answer(below, ask, n, alive)
-        out += ENTRY.pack(*ask, len(words)) + struct.pack(f'<{len(words)}H', *words)
+        out += entry_bytes(ask, words, version)
         if len(out) > FILE_MOST:
             fail(line, 'with this question the file is over 65,536 bytes, the most')
         if ask.device >= n:
@@ -288,40 +314,45 @@ def header(data):
     if len(data) < HEADER.size:
         bad(len(data), f'the file ends inside its header of {HEADER.size} bytes')
     _, version, n, alive = HEADER.unpack_from(data)
-    for at, good, text in ((3, version == 1, f'version {version} is not 1'),
+    for at, good, text in ((3, version in ENTRY, f'version {version} is not 1 or 2'),
                            (5, 1 <= n <= DEVICES_MOST, f'n {n} is not in 1 to 32'),
                            (6, alive <= 1, f'alive {alive} is not 0 or 1')):
         if not good:
             bad(at, text)
-    return n, alive
+    return n, alive, version
 
-def entry(data, at, i, alive):
+def entry(data, at, i, alive, version):
     """The question and the words of entry i, which begins at byte `at`."""
     if data[at] >= len(KINDS):
         bad(at, f'kind {data[at]} is above 4', i)
-    if at + ENTRY.size > len(data):
+    start, places = at + ENTRY[version].size, PLACES[version]
+    if start > len(data):
         bad(len(data), f'the file ends inside the entry begun at byte {at}', i)
-    *fields, count = ENTRY.unpack_from(data, at)
-    ask = Ask(*fields)
-    used = PARTS[ask.kind] + (('seed',) if alive and ask.kind != HELLOALL else ())
-    for name, place in (('register', 1), ('value', 2), ('device', 4), ('seed', 5)):
-        found = getattr(ask, name)
+    fields = dict(zip(places, ENTRY[version].unpack_from(data, at)))
+    count = fields.pop('words')
+    ask = asked(**fields)
+    used = ('kind', *PARTS[ask.kind], *(['mask'] if ask.kind in WRITES else []),
+            *(['seed'] if alive and ask.kind != HELLOALL else []))
+    for name, found in fields.items():
         if found and name not in used:
             off = ' with alive off' if name == 'seed' and not alive else ''
-            bad(at + place, f'{name} {found:X}h is not 0, but '
-                            f'{KINDS[ask.kind]} uses no {name}{off}', i)
+            bad(at + places[name], f'{name} {found:X}h is not 0, but '
+                                   f'{KINDS[ask.kind]} uses no {name}{off}', i)
+    if ask.kind in WRITES and not ask.mask:
+        bad(at + places['mask'], f'mask 0: {KINDS[ask.kind]} is to show one bit at least', i)
     if count > WORDS_MOST:
-        bad(at + 6, f'{count} words are over 140', i)
-    start = at + ENTRY.size
+        bad(at + places['words'], f'{count} words are over 140', i)
     if start + 2 * count > len(data):
         bad(len(data), f'the file ends inside the words: {count} from byte {start} on', i)
     return ask, list(struct.unpack_from(f'<{count}H', data, start))
 
-def question_text(ask, alive):
+def question_text(ask, alive, version):
     text = {'register': f'{ask.register:02X}h', 'value': f'{ask.value:04X}h',
             'device': str(ask.device), '=': '='}
+    masked = ask.kind in WRITES and 'mask' in PLACES[version]
+    mask = ['mask', f'{ask.mask:04X}h'] if masked else []
     seed = ['seed', f'{ask.seed:02X}h'] if alive and ask.kind != HELLOALL else []
-    return ' '.join([KINDS[ask.kind], *(text[part] for part in PARTS[ask.kind]), *seed])
+    return ' '.join([KINDS[ask.kind], *(text[part] for part in PARTS[ask.kind]), *mask, *seed])
 
 def remark(ask, i):
     name = NAMES.get(ask.register) if 'register' in PARTS[ask.kind] else None
@@ -344,13 +375,14 @@ def answer_text(words):
 
 def show(data):
     """The text that `write` turns into these bytes again; there are no warnings."""
-    n, alive = header(data)
-    lines, at, i = [f'chain {n}' + (' alive' if alive else '')], HEADER.size, 0
+    n, alive, version = header(data)
+    first = f'chain {n}' + ' alive' * alive + (f' version {version}' if version > 1 else '')
+    lines, at, i = [first], HEADER.size, 0
     while at < len(data):
         i += 1
-        ask, words = entry(data, at, i, alive)
-        lines += [question_text(ask, alive) + remark(ask, i), *answer_text(words)]
-        at += ENTRY.size + 2 * len(words)
+        ask, words = entry(data, at, i, alive, version)
+        lines += [question_text(ask, alive, version) + remark(ask, i), *answer_text(words)]
+        at += ENTRY[version].size + 2 * len(words)
     return ('\n'.join(lines) + '\n').encode(), ''
 
 # The program. It reads and writes by descriptor: no buffer is left that could
