@@ -19,7 +19,8 @@ enum { HELLOALL, WRITEALL, WRITEDEVICE, READALL, READDEVICE };
 
 enum {
     PREAMBLE = 0xE2A, STOP = 0xEA8, MOST_DEVICES = 32, MOST_BYTES = 69,
-    MOST_WORDS = 140, MOST_FILE = 65536, HEADER = 7, ENTRY = 8, MOST_ENTRIES = 8191
+    MOST_WORDS = 140, MOST_FILE = 65536, HEADER = 7, MOST_ENTRIES = 8191,
+    ALL_BITS = 0xFFFF
 };
 
 /* ---- Tables ------------------------------------------------------------- */
@@ -315,20 +316,46 @@ uint32_t plain_command(uint8_t kind, uint8_t n, uint8_t alive, uint8_t reg,
 
 static int is_header(const uint8_t *file, size_t bytes)
 {
-    static const uint8_t start[5] = { 'B', 'M', 'C', 1, 0 };
-    return bytes >= HEADER && memcmp(file, start, 5) == 0
+    return bytes >= HEADER && memcmp(file, "BMC", 3) == 0
+        && (file[3] == 1 || file[3] == 2) && file[4] == 0
         && file[5] >= 1 && file[5] <= MOST_DEVICES && file[6] <= 1;
+}
+
+/* An entry's fields behind its value are moved on by version 2's mask. */
+static unsigned mask_bytes(const uint8_t *file)
+{
+    return file[3] == 2 ? 2 : 0;
+}
+
+static unsigned field_bytes(const uint8_t *file)
+{
+    return 8 + mask_bytes(file);
 }
 
 static struct question entry_question(const uint8_t *file, const uint8_t *e)
 {
-    struct question q = { e[0], file[5], file[6], e[1], get_word(e + 2), e[4], e[5] };
+    const uint8_t *moved = e + mask_bytes(file);
+    struct question q = {
+        e[0], file[5], file[6], e[1], get_word(e + 2), moved[4], moved[5]
+    };
     return q;
 }
 
-static size_t entry_bytes(const uint8_t *e)
+static unsigned entry_mask(const uint8_t *file, const uint8_t *e)
 {
-    return ENTRY + 2 * (size_t)get_word(e + 6);
+    if (mask_bytes(file) != 0)
+        return get_word(e + 4);
+    return is_write(e[0]) ? ALL_BITS : 0;
+}
+
+static unsigned entry_words(const uint8_t *file, const uint8_t *e)
+{
+    return get_word(e + mask_bytes(file) + 6);
+}
+
+static size_t entry_bytes(const uint8_t *file, const uint8_t *e)
+{
+    return field_bytes(file) + 2 * (size_t)entry_words(file, e);
 }
 
 static int are_unused_zero(const struct question *q)
@@ -344,17 +371,18 @@ static int are_unused_zero(const struct question *q)
 
 static int is_entry(const uint8_t *file, const uint8_t *e, size_t left)
 {
-    if (left < ENTRY || e[0] > READDEVICE || get_word(e + 6) > MOST_WORDS)
+    if (left < field_bytes(file) || e[0] > READDEVICE || entry_words(file, e) > MOST_WORDS)
         return 0;
     struct question q = entry_question(file, e);
-    return entry_bytes(e) <= left && are_unused_zero(&q);
+    return entry_bytes(file, e) <= left && are_unused_zero(&q)
+        && is_write(q.kind) == (entry_mask(file, e) != 0);
 }
 
 static int is_job_file(const uint8_t *file, size_t bytes)
 {
     if (bytes > MOST_FILE || !is_header(file, bytes))
         return 0;
-    for (size_t at = HEADER; at < bytes; at += entry_bytes(file + at))
+    for (size_t at = HEADER; at < bytes; at += entry_bytes(file, file + at))
         if (!is_entry(file, file + at, bytes - at))
             return 0;
     return 1;
@@ -362,22 +390,24 @@ static int is_job_file(const uint8_t *file, size_t bytes)
 
 /* ---- The certificate ---------------------------------------------------- */
 
-/* The last good write so far, a letter for each device it covers, and the
- * number of each entry. */
+/* The last good write so far with the bits it is to show, a letter for each
+ * device it covers, and the number of each entry. */
 struct standing {
     int written;
     struct question write;
+    unsigned mask;
     char letters[MOST_DEVICES];
     size_t entries;
     uint8_t numbers[MOST_ENTRIES];
 };
 
-static void note_write(struct standing *s, const struct question *q)
+static void note_write(struct standing *s, const struct question *q, unsigned mask)
 {
     if (!is_good(q))
         return;
     s->written = 1;
     s->write = *q;
+    s->mask = mask;
     memset(s->letters, 'U', sizeof s->letters);
 }
 
@@ -386,19 +416,21 @@ static void note_read(struct standing *s, const struct question *q, const uint8_
     unsigned first = q->kind == READALL ? 0 : q->device;
     if (!s->written || q->reg != s->write.reg)
         return;
-    for (unsigned i = 0; i < value_count(q); i++)
-        s->letters[first + i] = get_word(values + 2 * i) == s->write.value ? 'S' : 'O';
+    for (unsigned i = 0; i < value_count(q); i++) {
+        unsigned differing = get_word(values + 2 * i) ^ s->write.value;
+        s->letters[first + i] = (differing & s->mask) == 0 ? 'S' : 'O';
+    }
 }
 
 static void note_entry(struct standing *s, const uint8_t *file, const uint8_t *e)
 {
     uint8_t values[2 * MOST_DEVICES];
     struct question q = entry_question(file, e);
-    unsigned number = read_answer(&q, e + ENTRY, entry_bytes(e) - ENTRY,
+    unsigned number = read_answer(&q, e + field_bytes(file), 2 * (size_t)entry_words(file, e),
                                   values, sizeof values) & 0xFF;
     s->numbers[s->entries++] = (uint8_t)number;
     if (is_write(q.kind))
-        note_write(s, &q);
+        note_write(s, &q, entry_mask(file, e));
     else if (number == ACCEPTED && q.kind != HELLOALL)
         note_read(s, &q, values);
 }
@@ -439,9 +471,11 @@ static uint8_t *put_figure(uint8_t *at, size_t figure)
     return end;
 }
 
-static void write_text(const struct standing *s, unsigned n, uint8_t *at)
+static void write_text(const struct standing *s, unsigned version, unsigned n, uint8_t *at)
 {
-    at = put_figure(put_text(at, "BMC 1 "), n);
+    at = put_figure(put_text(at, "BMC "), version);
+    *at++ = ' ';
+    at = put_figure(at, n);
     *at++ = '\n';
     for (size_t i = 0; i < s->entries; i++) {
         at = put_figure(put_text(at, "E "), i + 1);
@@ -466,11 +500,11 @@ uint32_t plain_certificate(const uint8_t *file, size_t file_bytes,
         return FILE_REFUSED;
     s.written = 0;
     s.entries = 0;
-    for (size_t at = HEADER; at < file_bytes; at += entry_bytes(file + at))
+    for (size_t at = HEADER; at < file_bytes; at += entry_bytes(file, file + at))
         note_entry(&s, file, file + at);
     size_t length = text_length(&s, file[5]);
     if (length > text_bytes)
         return ROOM;
-    write_text(&s, file[5], text);
+    write_text(&s, file[3], file[5], text);
     return (uint32_t)length << 8;
 }

@@ -61,13 +61,14 @@
 #include <stdint.h>
 
 /* The version of this header and its archive. The second number rises with new
- * calls; the first would, should an old call ever lose its meaning. */
+ * calls and with what an old call takes that it refused before; the first would,
+ * should an old call ever lose its meaning. */
 #define BMC_VERSION_MAJOR 1
-#define BMC_VERSION_MINOR 1
+#define BMC_VERSION_MINOR 2
 #define BMC_VERSION_PATCH 0
 #define BMC_VERSION \
     (10000 * BMC_VERSION_MAJOR + 100 * BMC_VERSION_MINOR + BMC_VERSION_PATCH)
-#define BMC_VERSION_TEXT "1.1.0"
+#define BMC_VERSION_TEXT "1.2.0"
 
 /* What C89, later C and C++ say differently. */
 #ifdef __cplusplus
@@ -308,22 +309,26 @@ BMC_CALL uint32_t bmc_cells(uint16_t enabled, uint8_t bipolar,
 
 /*
  * The certificate of a job file, as text; no zero byte closes it. A job file is
- * a header (the bytes 'B' 'M' 'C', version 1 in two bytes, n, alive) and entries
- * (kind, register, value in two bytes, device, seed, number of words in two
- * bytes, the answer's words), low bytes first. In this order:
+ * a header (the bytes 'B' 'M' 'C', version 1 or 2 in two bytes, n, alive) and
+ * entries (kind, register, value in two bytes, in version 2 a mask in two bytes,
+ * device, seed, number of words in two bytes, the answer's words), low bytes
+ * first. In this order:
  *   FILE  the file is longer than 65,536 bytes; the header is cut short or wrong
  *         or its n not 1..32; an entry has a kind above 4, is cut short, has more
  *         than 140 words, or has a field not 0 that its kind does not use (the
- *         seed too where alive is 0, and for HELLOALL);
+ *         seed too where alive is 0, and for HELLOALL; the mask where it is no
+ *         write); or a write's mask is 0, whatever its device;
  *   ROOM  text is shorter than the certificate.
  * Accepted: the certificate stands at the front of text and BMC_TEXT_BYTES is
  * its length. With text_bytes of BMC_CERTIFICATE_MOST or more it is never ROOM.
- * Its lines, each with its line feed: 'BMC 1 n'; for each entry 'E i r', i from
- * 1, r the number that bmc_read gives with room for 32 values; and for each
- * device that the last write with a good question covers, in address order,
- * 'D a v', where v is S or O as the latest accepted read of that register after
- * the write that covers the device gave the value written or another, and U
- * where there is no such read. For FILE nothing is written.
+ * Its lines, each with its line feed: 'BMC f n', f the file's version; for each
+ * entry 'E i r', i from 1, r the number that bmc_read gives with room for 32
+ * values; and for each device that the last write with a good question covers, in
+ * address order, 'D a v', where v is S or O as the latest accepted read of that
+ * register after the write that covers the device gave the value written or
+ * another, and U where there is no such read. Values are compared in the bits of
+ * that write's mask, in a version 1 file in all sixteen. For FILE nothing is
+ * written.
  */
 BMC_CALL uint32_t bmc_certificate(const uint8_t *file, size_t file_bytes,
                                   uint8_t *text, size_t text_bytes);
