@@ -254,7 +254,7 @@ static void try_long_files(void)
 
 /* ---- The part ----------------------------------------------------------- */
 
-enum { GOOD = 3000, WORD_COUNTS = 300, SPOILED = 20000, CUT = 25, RANDOM = 200000 };
+enum { GOOD = 6000, WORD_COUNTS = 600, SPOILED = 40000, CUT = 50, RANDOM = 400000 };
 
 void try_certificates(void)
 {

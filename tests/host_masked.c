@@ -231,7 +231,7 @@ static void try_both_versions(void)
 
 /* ---- The part ----------------------------------------------------------- */
 
-enum { LETTERS = 20000, RULES = 100, VERSIONS = 300, CARRIED = 2000 };
+enum { LETTERS = 100000, RULES = 200, VERSIONS = 300, CARRIED = 5000 };
 
 void try_masked(void)
 {
