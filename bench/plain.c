@@ -371,7 +371,8 @@ static int are_unused_zero(const struct question *q)
 
 static int is_entry(const uint8_t *file, const uint8_t *e, size_t left)
 {
-    if (left < field_bytes(file) || e[0] > READDEVICE || entry_words(file, e) > MOST_WORDS)
+    if (left < field_bytes(file) || e[0] > READDEVICE
+        || entry_words(file, e) > MOST_WORDS)
         return 0;
     struct question q = entry_question(file, e);
     return entry_bytes(file, e) <= left && are_unused_zero(&q)
@@ -426,7 +427,8 @@ static void note_entry(struct standing *s, const uint8_t *file, const uint8_t *e
 {
     uint8_t values[2 * MOST_DEVICES];
     struct question q = entry_question(file, e);
-    unsigned number = read_answer(&q, e + field_bytes(file), 2 * (size_t)entry_words(file, e),
+    size_t words = entry_words(file, e);
+    unsigned number = read_answer(&q, e + field_bytes(file), 2 * words,
                                   values, sizeof values) & 0xFF;
     s->numbers[s->entries++] = (uint8_t)number;
     if (is_write(q.kind))
@@ -471,7 +473,8 @@ static uint8_t *put_figure(uint8_t *at, size_t figure)
     return end;
 }
 
-static void write_text(const struct standing *s, unsigned version, unsigned n, uint8_t *at)
+static void write_text(const struct standing *s, unsigned version, unsigned n,
+                       uint8_t *at)
 {
     at = put_figure(put_text(at, "BMC "), version);
     *at++ = ' ';

@@ -193,7 +193,9 @@ static void try_version(unsigned version)
 
 static void try_versions(void)
 {
-    static const unsigned versions[] = { 0, 1, 2, 3, 255, 256, 257, 258, 512, 513, 514, 65535 };
+    static const unsigned versions[] = {
+        0, 1, 2, 3, 255, 256, 257, 258, 512, 513, 514, 65535
+    };
     for (size_t i = 0; i < sizeof versions / sizeof versions[0]; i++)
         try_version(versions[i]);
     try_version(any(65536));

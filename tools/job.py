@@ -31,8 +31,8 @@ A plan, with all that may stand in one:
     turn 5.3 5.4                   # damage: turn over bits 3 and 4 of word 5
   readdevice 1 MEASUREEN           # 12h by its name in data sheet 004
     answer bytes 0D 12 0F 00 20 pec 01   # any bytes; pec: of those before it
-  writedevice 1 13h = 0025h mask 1FFEh seed 02h   # the bits that a read has to
-                                   # show for an S; left out they are all, FFFFh
+  writedevice 1 13h = 0025h mask 1FFEh   # mask: the bits that a read has to show
+                                   # for an S, before any seed; left out it is FFFFh
     answer words E2A D54 EA8       # any words, as they came
   readall 12h                      # no answer line: no words came back
 
@@ -197,8 +197,9 @@ def question(line, tokens, alive, version):
         fail(line, "helloall has no alive byte: take 'seed' away" if kind == HELLOALL else
              "a seed, but alive is off: take it away, or put 'alive' on the chain line")
     if 'mask' in rest and (kind not in WRITES or 'mask' not in PLACES[version]):
-        fail(line, f"a mask, but {name} writes nothing: take it away" if kind not in WRITES else
-             "a mask, but in version 1: take it away, or put 'version 2' last on the chain line")
+        fail(line, f'a mask, but {name} writes nothing: take it away'
+             if kind not in WRITES else 'a mask, but in version 1: take it away, '
+             "or put 'version 2' last on the chain line")
     for part, least, most in (('seed', 0, 0xFF), ('mask', 1, ALL_BITS)):
         if rest[-2:-1] == [part]:
             *rest, _, token = rest
@@ -339,7 +340,7 @@ def entry(data, at, i, alive, version):
             bad(at + places[name], f'{name} {found:X}h is not 0, but '
                                    f'{KINDS[ask.kind]} uses no {name}{off}', i)
     if ask.kind in WRITES and not ask.mask:
-        bad(at + places['mask'], f'mask 0: {KINDS[ask.kind]} is to show one bit at least', i)
+        bad(at + places['mask'], 'mask 0, but a write is to show one bit at least', i)
     if count > WORDS_MOST:
         bad(at + places['words'], f'{count} words are over 140', i)
     if start + 2 * count > len(data):

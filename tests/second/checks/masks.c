@@ -75,6 +75,18 @@ static void check_cuts(void)
     }
 }
 
+/* As in version 1. */
+static void check_words(void)
+{
+    const uint16_t words[141] = { 0 };
+    struct s_question read = { .kind = 3, .reg = 0x12 };
+    for (size_t count = 139; count <= 141; count++) {
+        begin_version(2, 32, 1);
+        add(read, words, count);
+        check(is_good_file() == (count <= 140), "140 words at most in version 2");
+    }
+}
+
 /* 6,552 entries of ten bytes, the last with four words, are 65,535 bytes. */
 static void check_longest(void)
 {
@@ -266,6 +278,7 @@ void check_masks(void)
     check_versions();
     check_fields();
     check_cuts();
+    check_words();
     check_longest();
     check_scanctrl();
     check_bits();
