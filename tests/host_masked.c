@@ -13,6 +13,7 @@
 
 static struct job job;
 static struct reply r;
+static unsigned numbers[16];                /* of its entries, where they are known */
 
 /* ---- Certificates that are known beforehand ----------------------------- */
 
@@ -26,13 +27,13 @@ static void due_line(const char *letter, unsigned long a, unsigned long b)
                                   "%s %lu %lu\n", letter, a, b);
 }
 
-/* The first line, and every entry accepted. */
+/* All but the letters. */
 static void begin_due(void)
 {
     due_bytes = 0;
     due_line("BMC", job.bytes[3], job.bytes[5]);
-    for (unsigned long i = 1; i <= job.entry_count; i++)
-        due_line("E", i, 0);
+    for (unsigned long i = 0; i < job.entry_count; i++)
+        due_line("E", i + 1, numbers[i]);
 }
 
 static void due_letter(unsigned device, char letter)
@@ -57,13 +58,30 @@ static unsigned mask;
 static char letters[BMC_MOST_DEVICES];
 static unsigned long came[SORTS];           /* where values read differ */
 
+/* An entry with the words of the reply. */
+static void put_known(struct s_question q, unsigned said, unsigned number)
+{
+    numbers[job.entry_count] = number;
+    put_entry(&job, clear_unused(q), said, r.words, r.word_count);
+}
+
 static void put_write(struct s_question q, unsigned shown)
 {
     last = q;
     mask = job.bytes[3] == 1 ? MASK_ALL : shown;
     memset(letters, 'U', sizeof letters);
     put_right_answer(&r, q);
-    put_entry(&job, clear_unused(q), mask, r.words, r.word_count);
+    put_known(q, mask, S_ACCEPTED);
+}
+
+/* To a device that is not there: neither its value nor its mask counts. */
+static void put_bad_write(void)
+{
+    struct s_question q = last;
+    q.kind = BMC_WRITEDEVICE;
+    q.value = any(65536);
+    q.device = between(q.n, 255);
+    put_known(q, some_mask(q.kind), S_QUESTION);
 }
 
 static void take_value(unsigned device, unsigned value)
@@ -84,7 +102,7 @@ static void put_read(unsigned kind, unsigned device, const uint16_t *values)
     memcpy(r.values, values, values_of(q) * sizeof *values);
     put_right_bytes(&r);
     put_words(&r);
-    put_entry(&job, clear_unused(q), MASK_NONE, r.words, r.word_count);
+    put_known(q, MASK_NONE, S_ACCEPTED);
     for (unsigned i = 0; i < values_of(q); i++)
         take_value(device + i, values[i]);
 }
@@ -98,12 +116,12 @@ static void must_have_letters(const char *what)
     must_be_due(what);
 }
 
-/* At least one of these bits, if there is one. */
+/* Some of these bits, often one alone; none where there are none. */
 static unsigned some_bits(unsigned among)
 {
     unsigned bits = 0;
     while (bits == 0 && among != 0)
-        bits = any(65536) & among;
+        bits = (any(2) == 0 ? 1u << any(16) : any(65536)) & among;
     return bits;
 }
 
@@ -123,13 +141,15 @@ static void try_letters(void)
     struct s_question q = any_question(between(BMC_WRITEALL, BMC_WRITEDEVICE));
     put_header(&job, some_version(), q.n, q.alive);
     put_write(q, some_mask(q.kind));
-    for (unsigned left = any(3); left > 0; left--) {
+    for (unsigned left = any(4); left > 0; left--) {
         unsigned all = any(2);
+        if (any(4) == 0)
+            put_write(q, some_mask(q.kind));
+        if (any(4) == 0)
+            put_bad_write();
         for (unsigned i = 0; i < q.n; i++)
             values[i] = some_value();
         put_read(all ? BMC_READALL : BMC_READDEVICE, all ? 0 : any(q.n), values);
-        if (any(4) == 0)
-            put_write(q, some_mask(q.kind));
     }
     must_have_letters("masked bits alone decide, those of the last write");
 }
