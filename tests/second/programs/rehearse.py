@@ -2,7 +2,7 @@
 same questions, masks and all, by `job show`."""
 from itertools import islice
 
-import certify
+import certify  # which finds job
 import job
 
 
