@@ -48,7 +48,7 @@ void check_runs(void)
         any_chain(n);
         size_t words = send_command(q, line);
         if (any(3) == 0)
-            turn(line, any((unsigned)words), any(12));
+            turn(line, any((unsigned)words / 2 - 1), any(8));
         through_both(n, line, words);
         long_line(n);
     }
