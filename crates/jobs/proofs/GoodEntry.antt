@@ -57,12 +57,9 @@ module _ (h : Header) (front : List ℕ) where
   pub too-many : 140 < wordsIn v front → goodEntry h front ≡ false
   too-many many = refuted (goodEntry h front) (λ e. absurd (omega (arith, good h front e .words)))
 
-  -- what is left to look at in an entry that is not cut short
-  abbrev pub fieldsKept : (kind : ℕ) → (unused : Bool) → (mask : Bool) → Bool
-  fieldsKept kind unused mask = leb kind 4 && unused && mask
-
+  -- an entry that is not cut short goes by its fields
   pub of-its-fields : sizeIn v front ≤ length front → wordsIn v front ≤ 140
-      → goodEntry h front ≡ fieldsKept (getD front 0 0) (unusedAreZero (askedIn h front)) (maskKept v (getD front 0 0) (maskIn v front))
+      → goodEntry h front ≡ (leb (getD front 0 0) 4 && unusedAreZero (askedIn h front) && maskKept v (getD front 0 0) (maskIn v front))
   unfolding goodEntry keepsRules
   of-its-fields whole words =
       simp (

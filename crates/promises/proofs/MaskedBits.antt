@@ -29,7 +29,7 @@ use Rattle.printing.specs.Text.{decimal, headLine}
 use Rattle.promises.specs.Certificate.{FromReader, DeviceLine, lettered, none, CertificateText}
 use Rattle.promises.specs.MaskedBits.{MaskedBits}
 use Rattle.promises.proofs.OneText.{only-one}
-use Rattle.promises.proofs.OwnLetter.{deserving-below, deserves-alike, same-line}
+use Rattle.promises.proofs.OwnLetter.{SameLetter, line-alike}
 
 -- ---- what is heard comes from an entry of the file
 
@@ -57,17 +57,16 @@ own-wide h e a =
     values-registers (bytesOf (e .words)) (bytes-bytes (e .words)) (valuesTaken (judgeOf q (e .words) 32)) (cond (eqb (q .kind) readAll) a 0)
 
 -- a good write of a version 1 file is expected to show all bits
-whole-mask : (h : Header) (e : Entry) → h .version ≡ 1 → Keeps h e → isGoodWrite (asked h e) ≡ true → e .mask ≡ allBits
+whole-mask : (h : Header) (e : Entry) → h .version < 2 → Keeps h e → isGoodWrite (asked h e) ≡ true → e .mask ≡ allBits
 unfolding isGoodWrite
 whole-mask h e old rules good =
     let writes = or-cases (eqb (e .kind) writeAll) (eqb (e .kind) writeDevice) (and-left (isWrite (e .kind)) (goodQuestion (asked h e)) good) in
     rules .whole
-    (⊎-elim (λ is. inl (eqb-true (e .kind) writeAll is)) (λ is. inr (eqb-true (e .kind) writeDevice is)) writes)
-    (omega (arith, old))
+    (⊎-elim (λ is. inl (eqb-true (e .kind) writeAll is)) (λ is. inr (eqb-true (e .kind) writeDevice is)) writes) old
 
--- ---- version 1
+-- ---- version 1, by its entries
 
-module _ (h : Header) (es : List Entry) (file text : List ℕ) (old : h .version ≡ 1) (encoded : Encodes h es file) (c : CertificateText h es text) where
+module _ (h : Header) (es : List Entry) (text : List ℕ) (old : h .version < 2) (keep : AllKeep h es) (c : CertificateText h es text) where
   abbrev xs : List Heard
   xs = c .heard
 
@@ -75,7 +74,7 @@ module _ (h : Header) (es : List Entry) (file text : List ℕ) (old : h .version
       → (shownMasked (w .entry) (ownValue a (r .entry)) → shownWhole (w .entry) (ownValue a (r .entry)))
       × (shownWhole (w .entry) (ownValue a (r .entry)) → shownMasked (w .entry) (ownValue a (r .entry)))
   same-shown a w r =
-      let write = source h (w .before) (w .entry) (w .after) es (subst (Forall₂ (FromReader h) es) (w .whole) (c .from-reader)) (encoded .entries) in
+      let write = source h (w .before) (w .entry) (w .after) es (subst (Forall₂ (FromReader h) es) (w .whole) (c .from-reader)) keep in
       let read = source h (r .before) (r .entry) (r .after) (write .later) (subst (Forall₂ (FromReader h) (write .later)) (r .whole) (write .rest)) (write .keep) in
       let good = ap goodWrite (sym (write .is)) ∙ w .passes in
       let mask : w .entry .mask ≡ allBits = ap (λ (x : Heard). x .mask) (write .is) ∙ whole-mask h (write .entry) old (write .rules) good in
@@ -84,40 +83,19 @@ module _ (h : Header) (es : List Entry) (file text : List ℕ) (old : h .version
       let own : ownValue a (r .entry) < 65536 = subst (λ (x : Heard). ownValue a x < 65536) (sym (read .is)) (own-wide h (read .entry) a) in
       all-bits-are-whole (w .entry) (ownValue a (r .entry)) mask own wide
 
-  version-1 : (a : ℕ) → DeviceLine shownWhole xs a (c .line a)
-  version-1 a = by-line (c .line a) (c .deserved a)
-    where
-      by-line : (line : List ℕ) → DeviceLine shownMasked xs a line → DeviceLine shownWhole xs a line
-      by-line _ (lettered v due) = lettered v (deserves-by shownMasked shownWhole xs a v (same-shown a) due)
-      by-line _ (none never) =
-          none (λ v due. never v (deserves-by shownWhole shownMasked xs a v (λ w r. (same-shown a w r .1, same-shown a w r .0)) due))
-
--- ---- the same letter
-
-same-letter : (h h′ : Header) (es es′ : List Entry) (text text′ : List ℕ) (c : CertificateText h es text) (c′ : CertificateText h′ es′ text′)
-    → (a : ℕ) (w : Last goodWrite (c .heard)) (after : List Heard) → c′ .heard ≡ w .before ++ (w .entry ∷ after)
-    → Forall₂ (AlikeIn (w .entry .mask) a) (w .after) after → c .line a ≡ c′ .line a
-same-letter h h′ es es′ text text′ c c′ a w after is alike =
-    let xs = c .heard in
-    let same : a < 32 → Same (c′ .heard) = λ below. subst Same (sym is) (same-in-masked-bits a below xs w after alike) in
-    same-line a xs (c′ .heard)
-    (λ v due. let both = same (deserving-below due) in deserves-alike a v xs (c′ .heard) (both .0) (both .1) due)
-    (λ v due. let both = same (deserving-below due) in deserves-alike a v (c′ .heard) xs (sym (both .0)) (sym (both .1)) due)
-    (c .line a) (c′ .line a) (c .deserved a) (c′ .deserved a)
-  where
-    Same : List Heard → Type 0
-    Same l =
-        (covers (standingAfter (c .heard) .write) a ≡ covers (standingAfter l .write) a)
-        × (getD (standingAfter (c .heard) .letters) a 0 ≡ getD (standingAfter l .letters) a 0)
-
-first-line : (n : ℕ) → headLine 1 n ≡ 0x42 ∷ 0x4D ∷ 0x43 ∷ 0x20 ∷ 0x31 ∷ 0x20 ∷ (decimal n ++ (0x0A ∷ []))
-unfolding headLine decimal
-first-line n = refl
+  line-by-all-bits : (a : ℕ) (line : List ℕ) → DeviceLine shownMasked xs a line → DeviceLine shownWhole xs a line
+  line-by-all-bits a _ (lettered v due) = lettered v (deserves-by shownMasked shownWhole xs a v (same-shown a) due)
+  line-by-all-bits a _ (none never) =
+      none (λ v due. never v (deserves-by shownWhole shownMasked xs a v (λ w r. (same-shown a w r .1, same-shown a w r .0)) due))
 
 pub masked-bits : MaskedBits
+unfolding headLine decimal
 masked-bits = record {
-  version-1 = version-1;
-  first-line = first-line;
-  same-letter = same-letter;
+  version-1 = λ h es file text old encoded c a. line-by-all-bits h es text (omega (arith, old)) (encoded .entries) c a (c .line a) (c .deserved a);
+  first-line = λ n. refl;
+  same-letter = λ h h′ es es′ text text′ c c′ a w after is alike.
+      line-alike a (c .heard) (c′ .heard)
+      (λ below. subst (SameLetter a (c .heard)) (sym is) (same-in-masked-bits a below (c .heard) w after alike))
+      (c .line a) (c′ .line a) (c .deserved a) (c′ .deserved a);
   all-sent = λ h kind reg value mask mask′ device seed words. refl;
 }

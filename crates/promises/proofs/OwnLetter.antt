@@ -42,13 +42,18 @@ covered-below q write a covered = let chain = covered-in-chain q write a covered
 pub deserving-below : {xs : List Heard} {a letter : ℕ} → Deserves shownMasked xs a letter → a < 32
 deserving-below {a = a} due = covered-below (due .write .entry .question) (due .write .passes) a (due .covered)
 
--- what is deserved in one job is deserved in the other
-pub deserves-alike : (a v : ℕ) (xs xs′ : List Heard) → (covers (standingAfter xs .write) a ≡ covers (standingAfter xs′ .write) a)
-    → (getD (standingAfter xs .letters) a 0 ≡ getD (standingAfter xs′ .letters) a 0) → Deserves shownMasked xs a v → Deserves shownMasked xs′ a v
-deserves-alike a v xs xs′ covered letter due =
+-- two jobs leave device a covered alike, and with the same letter
+abbrev pub SameLetter : (a : ℕ) → (xs xs′ : List Heard) → Type 0
+SameLetter a xs xs′ =
+    (covers (standingAfter xs .write) a ≡ covers (standingAfter xs′ .write) a)
+    × (getD (standingAfter xs .letters) a 0 ≡ getD (standingAfter xs′ .letters) a 0)
+
+-- what is deserved in one is then deserved in the other
+deserves-alike : (a v : ℕ) (xs xs′ : List Heard) → SameLetter a xs xs′ → Deserves shownMasked xs a v → Deserves shownMasked xs′ a v
+deserves-alike a v xs xs′ same due =
     let below = deserving-below due in
     let given = deserved-is-given xs a v below due in
-    given-is-deserved xs′ a v below (record { covered = sym covered ∙ given .covered; stands = sym letter ∙ given .stands })
+    given-is-deserved xs′ a v below (record { covered = sym (same .0) ∙ given .covered; stands = sym (same .1) ∙ given .stands })
 
 -- a device deserves one letter at most,
 one-letter : {xs : List Heard} {a v v′ : ℕ} → Deserves shownMasked xs a v → Deserves shownMasked xs a v′ → v ≡ v′
@@ -64,6 +69,14 @@ same-line a xs xs′ to back _ _ (lettered v due) (none never) = absurd (never v
 same-line a xs xs′ to back _ _ (none never) (lettered v due) = absurd (never v (back v due))
 same-line a xs xs′ to back _ _ (none never) (none never′) = refl
 
+-- and so wherever two jobs leave it the same letter
+pub line-alike : (a : ℕ) (xs xs′ : List Heard) → (a < 32 → SameLetter a xs xs′)
+    → (l l′ : List ℕ) → DeviceLine shownMasked xs a l → DeviceLine shownMasked xs′ a l′ → l ≡ l′
+line-alike a xs xs′ same =
+    same-line a xs xs′
+    (λ v due. deserves-alike a v xs xs′ (same (deserving-below due)) due)
+    (λ v due. let back = same (deserving-below due) in deserves-alike a v xs′ xs (sym (back .0), sym (back .1)) due)
+
 pub no-line : (a : ℕ) (xs : List Heard) → ((v : ℕ) → Deserves shownMasked xs a v → ⊥) → (l : List ℕ) → DeviceLine shownMasked xs a l → l ≡ []
 no-line a xs never _ (lettered v due) = absurd (never v due)
 no-line a xs never _ (none never′) = refl
@@ -71,13 +84,7 @@ no-line a xs never _ (none never′) = refl
 pub own-letter : OwnLetter
 own-letter = record {
   own = λ h h′ es es′ text text′ c c′ a alike.
-      same-line a (c .heard) (c′ .heard)
-      (λ v due.
-      let same = own-view a (deserving-below due) (c .heard) (c′ .heard) alike in
-      deserves-alike a v (c .heard) (c′ .heard) (same .0) (same .1) due)
-      (λ v due.
-      let same = own-view a (deserving-below due) (c .heard) (c′ .heard) alike in
-      deserves-alike a v (c′ .heard) (c .heard) (sym (same .0)) (sym (same .1)) due)
+      line-alike a (c .heard) (c′ .heard) (λ below. own-view a below (c .heard) (c′ .heard) alike)
       (c .line a) (c′ .line a) (c .deserved a) (c′ .deserved a);
   covered-below = covered-below;
   lettered-below = λ h es text c a above. no-line a (c .heard) (λ v due. omega (arith, above, deserving-below due)) (c .line a) (c .deserved a);
