@@ -32,7 +32,7 @@ A plan, with all that may stand in one:
   readdevice 1 MEASUREEN           # 12h by its name in data sheet 004
     answer bytes 0D 12 0F 00 20 pec 01   # any bytes; pec: of those before it
   writedevice 1 13h = 0025h mask 1FFEh   # mask: the bits that a read has to show
-                                   # for an S, before any seed; left out it is FFFFh
+                                   # for an S; it stands before any seed; left out: FFFFh
     answer words E2A D54 EA8       # any words, as they came
   readall 12h                      # no answer line: no words came back
 
@@ -172,7 +172,7 @@ def statements(text):
             yield line, [word.decode('latin-1') for word in words]  # takes any byte
 
 def chain(line, tokens):
-    right = "'chain 2', 'chain 2 alive' or 'chain 2 alive version 2', with 1 to 32 devices"
+    right = "'chain 2', 'chain 2 alive', 'chain 2 version 2' or 'chain 2 alive version 2', with 1 to 32 devices"
     if tokens[:1] != ['chain']:
         what = quote(tokens[0]) + ' before the' if tokens else 'no'
         fail(line, f'{what} chain line: begin with {right}')

@@ -1,5 +1,5 @@
--- The certificate of a job file (document 01, "Job file and certificate"; document 02, M-100): FILE, then ROOM, else exactly its text at the front of the lent
--- memory, the rest as it was.
+-- The certificate of a job file (document 01, "Job file and certificate"; document 02, M-100): FILE, then ROOM, else exactly its text at the front
+-- of the lent memory, the rest as it was.
 use mathlib.Core.Path.{_≡_}
 use mathlib.Core.Bool.{cond}
 use mathlib.Core.List.{List, map}

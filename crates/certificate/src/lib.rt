@@ -1,5 +1,5 @@
-// The certificate of a job file (document 01, "Job file and certificate"; document 02, M-100): the reader is called on each entry's question and words, its
-// number kept, and the letters brought up to date; then all of it is printed. Of the reader only its contract is used.
+// The certificate of a job file (document 01, "Job file and certificate"; document 02, M-100): the reader is called on each entry's question and
+// words, its number kept, and the letters brought up to date; then all of it is printed. Of the reader only its contract is used.
 mod entries;
 
 use entries::tell;

@@ -12,7 +12,7 @@ use Rattle.packing.proofs.Back.{length-words}
 use Rattle.questions.specs.declared.question.Question.{Question}
 use Rattle.jobs.specs.declared.Header.{Header}
 use Rattle.jobs.specs.Format.{fieldSize}
-use Rattle.masks.specs.Masks.{maskKept}
+use Rattle.masks.specs.Masks.{goodMask}
 use Rattle.used_fields.specs.Used.{unusedAreZero}
 use Rattle.jobs.specs.Rules.{keepsRules}
 use Rattle.jobs.specs.declared.Next.the-variants as next
@@ -59,7 +59,7 @@ module _ (h : Header) (front : List ℕ) where
 
   -- an entry that is not cut short goes by its fields
   pub of-its-fields : sizeIn v front ≤ length front → wordsIn v front ≤ 140
-      → goodEntry h front ≡ (leb (getD front 0 0) 4 && unusedAreZero (askedIn h front) && maskKept v (getD front 0 0) (maskIn v front))
+      → goodEntry h front ≡ (leb (getD front 0 0) 4 && unusedAreZero (askedIn h front) && goodMask v (getD front 0 0) (maskIn v front))
   unfolding goodEntry keepsRules
   of-its-fields whole words =
       simp (

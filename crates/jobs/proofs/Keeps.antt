@@ -10,7 +10,7 @@ use borrow.Author.Tests.{le-leb, leb-true, leb-false, eq-eqb, ne-eqb, eqb-true, 
 use Rattle.ground.proofs.Test.{and-left, and-right}
 use Rattle.questions.specs.Question.{helloAll, writeAll, writeDevice, readAll, readDevice}
 use Rattle.questions.proofs.ByKind.{each-kind}
-use Rattle.masks.specs.Masks.{allBits, maskKept}
+use Rattle.masks.specs.Masks.{allBits, goodMask}
 use Rattle.jobs.specs.declared.Header.{Header}
 use Rattle.jobs.specs.Format.{Entry, asked}
 use Rattle.used_fields.specs.Used.{usesAt, usesOf, unusedAreZero}
@@ -132,10 +132,10 @@ module _ (version mask : ℕ) where
       by-test true is e = (eqb-false mask 0 (not-true (eqb mask 0) e), λ old. absurd (omega (arith, old, leb-true 2 version is)))
       by-test false is e = let all = eqb-true mask allBits e in (λ none. omega (arith, none, all), λ old. all)
 
-  mask-kept-passes : (k : ℕ) → k ≤ 4 → Unmasked k → (Writes k → mask ≡ 0 → ⊥) → (Writes k → version < 2 → mask ≡ allBits) → maskKept version k mask ≡ true
-  unfolding maskKept
-  mask-kept-passes =
-      each-kind (λ (k : ℕ). Unmasked k → (Writes k → mask ≡ 0 → ⊥) → (Writes k → version < 2 → mask ≡ allBits) → maskKept version k mask ≡ true)
+  good-mask-passes : (k : ℕ) → k ≤ 4 → Unmasked k → (Writes k → mask ≡ 0 → ⊥) → (Writes k → version < 2 → mask ≡ allBits) → goodMask version k mask ≡ true
+  unfolding goodMask
+  good-mask-passes =
+      each-kind (λ (k : ℕ). Unmasked k → (Writes k → mask ≡ 0 → ⊥) → (Writes k → version < 2 → mask ≡ allBits) → goodMask version k mask ≡ true)
       (λ zero some whole. eq-eqb mask 0 (zero (inl refl)))
       (λ zero some whole. write-passes (some (inl refl)) (whole (inl refl)))
       (λ zero some whole. write-passes (some (inr refl)) (whole (inr refl)))
@@ -155,10 +155,10 @@ module _ (version mask : ℕ) where
       let kept = write-kept e in
       record { zero = λ rule. absurd (⊎-elim first last rule); some = λ writes. kept .0; whole = λ writes. kept .1 }
 
-  mask-kept-rules : (k : ℕ) → k ≤ 4 → maskKept version k mask ≡ true → MaskRules k
-  unfolding maskKept
-  mask-kept-rules =
-      each-kind (λ (k : ℕ). maskKept version k mask ≡ true → MaskRules k)
+  good-mask-rules : (k : ℕ) → k ≤ 4 → goodMask version k mask ≡ true → MaskRules k
+  unfolding goodMask
+  good-mask-rules =
+      each-kind (λ (k : ℕ). goodMask version k mask ≡ true → MaskRules k)
       (of-others 0 (⊎-elim (λ is. omega (arith, is)) (λ is. omega (arith, is))))
       (of-write 1 (λ is. omega (arith, is)) (λ up. omega (arith, up)))
       (of-write 2 (λ is. omega (arith, is)) (λ up. omega (arith, up)))
@@ -171,8 +171,8 @@ module _ (h : Header) (e : Entry) where
   abbrev on : Bool
   on = eqb (h .alive) 1
 
-  pub mask-passes : Keeps h e → maskKept (h .version) (e .kind) (e .mask) ≡ true
-  mask-passes rules = mask-kept-passes (h .version) (e .mask) (e .kind) (rules .kind) (rules .mask) (rules .masked) (rules .whole)
+  pub mask-passes : Keeps h e → goodMask (h .version) (e .kind) (e .mask) ≡ true
+  mask-passes rules = good-mask-passes (h .version) (e .mask) (e .kind) (rules .kind) (rules .mask) (rules .masked) (rules .whole)
 
   pub keeps-passes : Keeps h e → keepsRules h e ≡ true
   unfolding keepsRules unusedAreZero usesOf
@@ -191,13 +191,13 @@ module _ (h : Header) (e : Entry) where
   unfolding keepsRules unusedAreZero usesOf
   passes-keeps ok =
       let k = e .kind in
-      let three = and-left _ (maskKept (h .version) k (e .mask)) ok in
+      let three = and-left _ (goodMask (h .version) k (e .mask)) ok in
       let few : k ≤ 4 = leb-true k 4 (and-right (leb (length (e .words)) 140) _ (and-left _ _ three)) in
       let uses = usesAt k on in
       let fields = and-right (leb (length (e .words)) 140 && leb k 4) _ three in
       let first = and-left _ _ fields in
       let two = and-left _ _ first in
-      let mask = mask-kept-rules (h .version) (e .mask) k few (and-right (leb (length (e .words)) 140 && leb k 4 && unusedAreZero (asked h e)) _ ok) in
+      let mask = good-mask-rules (h .version) (e .mask) k few (and-right (leb (length (e .words)) 140 && leb k 4 && unusedAreZero (asked h e)) _ ok) in
       record {
         words = leb-true (length (e .words)) 140 (and-left _ _ (and-left _ _ three));
         kind = few;

@@ -15,7 +15,7 @@ use Rattle.ground.proofs.Lists.{tabulated-front}
 use Rattle.remainder.specs.Turned.{Bytes}
 use Rattle.packing.specs.Words.{lowHigh, wordsOf, asBytes}
 use Rattle.packing.proofs.Back.{length-bytes, words-back, bytes-back, words-wide}
-use Rattle.masks.specs.Masks.{isWrite, allBits, maskOf, maskKept}
+use Rattle.masks.specs.Masks.{isWrite, allBits, maskOf, goodMask}
 use Rattle.jobs.specs.declared.Header.{Header}
 use Rattle.jobs.specs.Format.{Entry, since, fieldBytes, fieldSize, maskPlace, behindMask, entryBytes}
 use Rattle.jobs.specs.Rules.{keepsRules}
@@ -161,8 +161,8 @@ module _ (version : ℕ) (e : Entry) (rest : List ℕ) where
       ∙ words-back (e .words) (fields version e fits .words)
 
   -- and the mask in its place, or it goes without saying
-  mask-back : maskKept version (e .kind) (e .mask) ≡ true → maskIn version bytes ≡ e .mask
-  unfolding maskOf maskKept
+  mask-back : goodMask version (e .kind) (e .mask) ≡ true → maskIn version bytes ≡ e .mask
+  unfolding maskOf goodMask
   mask-back = by-test (leb 2 version) (isWrite (e .kind))
     where
       said : Bool → ℕ → ℕ

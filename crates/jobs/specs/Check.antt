@@ -1,5 +1,6 @@
--- Which bytes are a job file, and what stands in it (document 01, "Job file and certificate"; document 02, M-100). FILE is given exactly when `goodFile` is
--- false. That a file is good exactly when it is the encoding of a header and entries that keep the rules is proved in proofs/GoodFile.antt.
+-- Which bytes are a job file, and what stands in it (document 01, "Job file and certificate"; document 02, M-100). FILE is given exactly when
+-- `goodFile` is false. That a file is good exactly when it is the encoding of a header and entries that keep the rules is proved in
+-- proofs/GoodFile.antt.
 use mathlib.Core.Bool.{Bool, true, cond, _&&_}
 use mathlib.Core.List.{List, [], _∷_}
 use Prim.Native.Nat.{ℕ, zero, suc, _+_, _*_}

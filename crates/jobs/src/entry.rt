@@ -1,10 +1,11 @@
-// The entries (document 01, "Job file and certificate"; document 02, M-100): whether one stands at the front of some bytes, its size, and one taken out at its place.
+// The entries (document 01, "Job file and certificate"; document 02, M-100): whether one stands at the front of some bytes, its size, and one taken
+// out at its place.
 use crate::Cursor;
 use crate::EntryAt;
 use crate::Header;
 use crate::Next;
 use crate::field_size;
-use masks::is_kept;
+use masks::is_good_mask;
 use masks::mask_of;
 use packing::join;
 use questions::question::Question;
@@ -38,7 +39,7 @@ pub fn is_good_entry(header: Header, front: &[u8]) -> bool
     if !are_unused_zero(q) {
         return false;
     }
-    is_kept(header.version, q.kind, mask_in(header.version, front))
+    is_good_mask(header.version, q.kind, mask_in(header.version, front))
 }
 
 // An entry that is known to stand at a place.

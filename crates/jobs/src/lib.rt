@@ -1,5 +1,5 @@
-// Job files (document 01, "Job file and certificate"; document 02, M-100): what one is made of, and its entries one after the other, read where they stand in
-// the lent file with a cursor that goes by value.
+// Job files (document 01, "Job file and certificate"; document 02, M-100): what one is made of, and its entries one after the other, read where
+// they stand in the lent file with a cursor that goes by value.
 pub mod entry;
 
 use entry::entry_known_at;

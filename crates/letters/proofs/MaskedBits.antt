@@ -30,21 +30,21 @@ module _ (a : ℕ) (h : a < 32) where
       since-alike (heard s e) (heard s′ e′) (entry-alike a s s′ same e e′ alike h) n
       (subst (λ (mask : ℕ). Forall₂ (AlikeIn mask a) es es′) (sym kept) rest)
 
-  pub same-in-masked-bits : (es : List Heard) (w : Last goodWrite es) (after′ : List Heard) → Forall₂ (AlikeIn (w .entry .mask) a) (w .after) after′
-      → (covers (standingAfter es .write) a ≡ covers (standingAfter (w .before ++ (w .entry ∷ after′)) .write) a)
-      × (getD (standingAfter es .letters) a 0 ≡ getD (standingAfter (w .before ++ (w .entry ∷ after′)) .letters) a 0)
-  same-in-masked-bits es w after′ alike =
+  pub same-in-masked-bits : (es : List Heard) (w : Last goodWrite es) (before after : List Heard) → Forall₂ (AlikeIn (w .entry .mask) a) (w .after) after
+      → (covers (standingAfter es .write) a ≡ covers (standingAfter (before ++ (w .entry ∷ after)) .write) a)
+      × (getD (standingAfter es .letters) a 0 ≡ getD (standingAfter (before ++ (w .entry ∷ after)) .letters) a 0)
+  same-in-masked-bits es w before after alike =
       let start = begunBy (w .entry) in
       let same = since-alike start start record { write = refl; letter = refl } (w .last) alike in
       let one = since-the-write es w in
-      let other = from-the-write (w .before) (w .entry) after′ (w .passes) in
+      let other = from-the-write before (w .entry) after (w .passes) in
       let covered : Standing → Bool = λ s. covers (s .write) a in
       let letter : Standing → ℕ = λ s. getD (s .letters) a 0 in
       (ap covered one ∙ ap covered (same .write) ∙ sym (ap covered other), ap letter one ∙ same .letter ∙ sym (ap letter other))
 
 -- ---- all sixteen bits
 
-pub whole-by-mask : (v w : ℕ) → v < 65536 → w < 65536 → bitAnd v allBits ≡ bitAnd w allBits → v ≡ w
+whole-by-mask : (v w : ℕ) → v < 65536 → w < 65536 → bitAnd v allBits ≡ bitAnd w allBits → v ≡ w
 whole-by-mask v w small small′ same = let rest : v % 65536 ≡ w % 65536 = sym (and-mask v 16) ∙ same ∙ and-mask w 16 in omega arith
 
 -- a write whose mask is FFFFh is shown in its masked bits exactly where it is shown in all sixteen

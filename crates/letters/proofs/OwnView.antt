@@ -14,7 +14,7 @@ use Rattle.letters.proofs.AlikeEntries.{SameFor, entry-alike}
 
 module _ (a : ℕ) where
   -- the same value agrees in the bits of every mask
-  pub alike-in : (mask : ℕ) {e e′ : Heard} → Alike a e e′ → AlikeIn mask a e e′
+  alike-in : (mask : ℕ) {e e′ : Heard} → Alike a e e′ → AlikeIn mask a e e′
   alike-in mask alike = record {
     question = alike .question;
     mask = alike .mask;

@@ -1,5 +1,5 @@
-// One entry of a job file heard (document 01, "Job file and certificate"; document 02, M-100): the reader is asked of its question and words, and the letters are
-// brought up to date. Of the reader only its contract is used.
+// One entry of a job file heard (document 01, "Job file and certificate"; document 02, M-100): the reader is asked of its question and words, and
+// the letters are brought up to date. Of the reader only its contract is used.
 use jobs::Cursor;
 use jobs::EntryAt;
 use jobs::Header;

@@ -17,5 +17,5 @@ unfoldable pub maskOf : (version kind said : ℕ) → ℕ
 maskOf version kind said = cond (leb 2 version) said (cond (isWrite kind) allBits 0)
 
 -- FILE where this is false: a write's mask is not 0, and before version 2 it is FFFFh; that of the other kinds is 0
-unfoldable pub maskKept : (version kind mask : ℕ) → Bool
-maskKept version kind mask = cond (isWrite kind) (cond (leb 2 version) (not (eqb mask 0)) (eqb mask allBits)) (eqb mask 0)
+unfoldable pub goodMask : (version kind mask : ℕ) → Bool
+goodMask version kind mask = cond (isWrite kind) (cond (leb 2 version) (not (eqb mask 0)) (eqb mask allBits)) (eqb mask 0)

@@ -3,7 +3,7 @@
 use questions::question::WRITEALL;
 use questions::question::WRITEDEVICE;
 ghost use mathlib.Core.Path.{_≡_};
-ghost use Rattle.masks.specs.Masks.{isWrite, maskOf, maskKept};
+ghost use Rattle.masks.specs.Masks.{isWrite, maskOf, goodMask};
 
 // All sixteen bits of a value.
 const ALL_BITS: u16 = 0xFFFF;
@@ -28,8 +28,8 @@ pub fn mask_of(version: u16, kind: u8, said: u16) -> u16
 }
 
 // Whether a mask keeps the rules: a write's is not 0, and before version 2 all bits; that of the other kinds is 0. FILE is given where it does not.
-pub fn is_kept(version: u16, kind: u8, mask: u16) -> bool
-    ensures { λ r. ⌜ r ≡ maskKept version kind mask ⌝ }
+pub fn is_good_mask(version: u16, kind: u8, mask: u16) -> bool
+    ensures { λ r. ⌜ r ≡ goodMask version kind mask ⌝ }
 {
     if !is_write(kind) {
         return mask == 0;

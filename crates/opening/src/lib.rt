@@ -50,8 +50,9 @@ fn is_marked(file: &[u8]) -> bool
     file[2] == 0x43
 }
 
+// The header, as it stands there.
 fn header_in(file: &[u8]) -> Header
-    requires { ⌜ 7 ≤ length (now file) ⌝ }
+    requires { ⌜ headSize ≤ length (now file) ⌝ }
     ensures { λ r. ⌜ r ≡ headerIn (now (file .entry)) ⌝ }
 {
     let version = join(file[3], file[4]);

@@ -1,5 +1,5 @@
-// The lines of a certificate (document 01, "Job file and certificate"): the first one, one for each entry, one for each device that the write
-// covers.
+// The lines of a certificate (document 01, "Job file and certificate"; document 02, M-100): the first one, one for each entry, one for each device
+// that the write covers.
 use crate::figures::put;
 use crate::figures::put_all;
 use crate::figures::put_number;

@@ -1,11 +1,11 @@
--- DEMAND 2, THE CERTIFICATE (document 01, "Job file and certificate"; document 02, M-100), down to the text that a person signs (what
--- `certify` writes; that the program puts it out is tested and not proved). Claimed of every file of bytes, and of
--- every answer that meets the contract of `certify`, or of `bmc_certificate` for C:
+-- DEMAND 2, THE CERTIFICATE (document 01, "Job file and certificate"; document 02, M-100), down to the text that a person signs (what `certify`
+-- writes; that the program puts it out is tested and not proved). Claimed of every file of bytes, and of every answer that meets the contract of
+-- `certify`, or of `bmc_certificate` for C:
 -- a certificate is written exactly where the file is the encoding of a header and entries that keep the rules and the text has room. The text is
--- `BMC v n`, v the file's version; then `E i r` for each entry, i from 1, r the number that the reader gives it; then `D a v`, in address order, for exactly the devices
--- that deserve a letter: those that the last write entry whose question is good covers, with S where of the accepted reads of that register that
--- come after the write and cover the device the latest shows the value written, in its masked bits, O where it shows another, U where there is no
--- such read. Nothing else is printed, and without a good write there is no D line. What the masks leave as it was: MaskedBits.antt.
+-- `BMC f n`, f the file's version; then `E i r` for each entry, i from 1, r the number that the reader gives it; then `D a v`, in address order, for
+-- exactly the devices that deserve a letter: those that the last write entry whose question is good covers, with S where of the accepted reads of that
+-- register that come after the write and cover the device the latest shows the value written, in its masked bits, O where it shows another, U where
+-- there is no such read. Nothing else is printed, and without a good write there is no D line. What the masks leave as it was: MaskedBits.antt.
 use mathlib.Core.Path.{_≡_}
 use mathlib.Core.List.{List, [], _++_, map, Forall₂}
 use Prim.Native.Nat.{ℕ, _/_, _≤_}

@@ -1,6 +1,6 @@
--- DEMAND 2. Commands go out, and answers are taken or refused, exactly as data sheet 004 and document 01 define; a device holds a setting only
--- by an accepted read after the write. Claimed of every question, every line and every output, and of every answer that meets the contract of
--- `write_command` and of `read`:
+-- DEMAND 2. Commands go out, and answers are taken or refused, exactly as data sheet 004 and document 01 define; a device holds a setting, in its
+-- masked bits (document 02, M-100), only by an accepted read after the write. Claimed of every question, every line and every output, and of every
+-- answer that meets the contract of `write_command` and of `read`:
 -- a command is written exactly where the question is good and there is room, and then it is the table's command line and nothing else;
 -- an answer is accepted exactly where the question is good, there is room, and the line is the line of a right answer for some values (of a
 -- write, the one answer; of HELLOALL, some count 1..32), and what is handed out is those values, HELLOALL's count being the byte on the line;

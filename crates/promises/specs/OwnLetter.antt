@@ -1,6 +1,6 @@
--- NO DEVICE SPEAKS FOR ANOTHER (document 01, "Job file and certificate"). A device's letter depends on the header, on the entries' questions
--- and masks and their order, on which entries were accepted, and on that device's own values: with those the same, another device's values in accepted reads
--- can't alter the line that is printed for it. And each device that a good write covers is one of 0 to 31, so that no D line is of another.
+-- NO DEVICE SPEAKS FOR ANOTHER (document 01, "Job file and certificate"). A device's letter depends on the header, on the entries' questions and
+-- masks and their order, on which entries were accepted, and on that device's own values: with those the same, another device's values in accepted
+-- reads can't alter the line that is printed for it. And each device that a good write covers is one of 0 to 31, so that no D line is of another.
 use mathlib.Core.Path.{_≡_}
 use mathlib.Core.Bool.{true}
 use mathlib.Core.List.{List, [], Forall₂}

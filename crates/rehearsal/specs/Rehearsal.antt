@@ -1,5 +1,5 @@
--- A job rehearsed on the twin (its entries as document 01 and document 02, M-100, have them): each good question's command goes through all devices of the chain, from power-on on, and the file is given
--- with the answers that came back. A bad question is not sent, and has no words.
+-- A job rehearsed on the twin: each good question's command goes through all devices of the chain, from power-on on, and the file is given
+-- with the answers that came back, in its own version and with its masks (document 02, M-100). A bad question is not sent, and has no words.
 use mathlib.Core.Path.{_≡_}
 use mathlib.Core.Bool.{cond}
 use mathlib.Core.List.{List, [], _∷_}

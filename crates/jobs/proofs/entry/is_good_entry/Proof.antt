@@ -3,7 +3,7 @@ use mathlib.Core.Path.{sym, ap, ap₂, _∙_}
 use native.Mathlib.Omega.{arith}
 use lib.ListN.{getD}
 use borrow.Author.Tests.{le-leb, lt-leb, not-true, not-false}
-use Rattle.masks.specs.Masks.{maskKept}
+use Rattle.masks.specs.Masks.{goodMask}
 use Rattle.questions.specs.declared.question.Question.{Question}
 use Rattle.used_fields.specs.Used.{unusedAreZero}
 use Rattle.jobs.proofs.Sizes.{field-size-is}
@@ -55,8 +55,8 @@ returns-5 c =
 mask-in-requires : tie.Need-mask-in-requires
 mask-in-requires c κs = search needs
 
-is-kept-requires : tie.Need-is-kept-requires
-is-kept-requires c κs = search needs
+is-good-mask-requires : tie.Need-is-good-mask-requires
+is-good-mask-requires c κs = search needs
 
 returns-6 : tie.Need-returns-6
 returns-6 c =
@@ -65,7 +65,7 @@ returns-6 c =
     let kind = ap (λ (q : Question). q .kind) asks in
     let unused = sym (c .before .before .before .are-unused-zero .ensures ∙ ap unusedAreZero asks) ∙ not-false _ (c .before .before .if5 .left) in
     let fields = of-its-fields (a .header) (a .front .now) (omega (arith, c .before .before .before .before .before .before .before .before .size-in .ensures, c .before .before .before .before .before .before .before .if3 .left)) (omega (arith, c .before .before .before .before .before .before .before .before .before .before .words-in .ensures, c .before .before .before .before .before .before .before .before .before .if2 .left)) in
-    let mask = c .is-kept .ensures ∙ ap₂ (maskKept (a .header .version)) kind (c .before .mask-in .ensures) in
+    let mask = c .is-good-mask .ensures ∙ ap₂ (goodMask (a .header .version)) kind (c .before .mask-in .ensures) in
     simp (fields, unused, le-leb (getD (a .front .now) 0 0) 4 (omega (arith, kind, c .before .before .before .before .if4 .left))) mask
 
 pub is-good-entry-spec : {M : Type 1} → statement M
@@ -83,5 +83,5 @@ is-good-entry-spec =
     are-unused-zero-requires
     returns-5
     mask-in-requires
-    is-kept-requires
+    is-good-mask-requires
     returns-6)
