@@ -55,10 +55,10 @@ def inputs(chance):
     yield files[0][:7]
     for data in files:
         yield data
-        yield from (data[:cut] for cut in range(0, len(data), 3))
-    for _ in range(1800):
+        yield from (data[:cut] for cut in range(0, len(data), 5))
+    for _ in range(1200):
         yield spoiled(chance, chance.choice(files))
-    for _ in range(300):
+    for _ in range(200):
         yield joined(chance, files)
     for _ in range(300):
         yield b'BMC' + bytes(chance.randrange(4) for _ in range(chance.randrange(60)))

@@ -1,4 +1,4 @@
-"""What the rehearsal programs are compared on: a third of the certificate programs' inputs. The file that comes back is of the same version and asks the
+"""What the rehearsal programs are compared on: a fifth of the certificate programs' inputs. The file that comes back is of the same version and asks the
 same questions, masks and all, by `job show`."""
 from itertools import islice
 
@@ -22,4 +22,4 @@ def fault(data, printed):
 
 
 def inputs(chance):
-    return islice(certify.inputs(chance), 0, None, 3)
+    return islice(certify.inputs(chance), 0, None, 5)
