@@ -1,21 +1,22 @@
 -- One entry's bytes read, and what is read written again: an entry is good exactly where it is the encoding of one that keeps the rules.
 use mathlib.Core.Path.{_≡_, refl, sym, ap, ap₂, subst, _∙_}
-use mathlib.Core.Bool.{Bool, true, false, cond, not, _&&_}
+use mathlib.Core.Bool.{Bool, true, false, cond, _&&_}
 use mathlib.Core.Logic.{⊎-elim}
 use mathlib.Core.List.{List, [], _∷_, _++_, append-assoc}
 use Prim.Native.Nat.{ℕ, zero, suc, _+_, _*_, _/_, _%_, _<_, _≤_}
 use native.Mathlib.Nat.{add-zero}
 use native.Mathlib.Omega.{arith}
-use lib.Dec.{leb, eqb}
+use lib.Dec.{leb}
 use lib.ListN.{length, getD, take, drop, length-append, length-take, length-drop, take-append-drop, List·getD-eq-default}
 use lib.Seq.{take-at, drop-at, drop-drop, getD-take, getD-drop, getD-append-add}
-use borrow.Author.Tests.{le-leb, eqb-true}
+use borrow.Author.Tests.{le-leb}
 use Rattle.ground.proofs.Test.{below-or-not}
 use Rattle.ground.proofs.Lists.{tabulated-front}
 use Rattle.remainder.specs.Turned.{Bytes}
 use Rattle.packing.specs.Words.{lowHigh, wordsOf, asBytes}
 use Rattle.packing.proofs.Back.{length-bytes, words-back, bytes-back, words-wide}
 use Rattle.masks.specs.Masks.{isWrite, allBits, maskOf, goodMask}
+use Rattle.masks.proofs.MaskOf.{said-mask, implied-mask}
 use Rattle.jobs.specs.declared.Header.{Header}
 use Rattle.jobs.specs.Format.{Entry, since, fieldBytes, fieldSize, maskPlace, behindMask, entryBytes}
 use Rattle.jobs.specs.Rules.{keepsRules}
@@ -162,17 +163,14 @@ module _ (version : ℕ) (e : Entry) (rest : List ℕ) where
 
   -- and the mask in its place, or it goes without saying
   mask-back : goodMask version (e .kind) (e .mask) ≡ true → maskIn version bytes ≡ e .mask
-  unfolding maskOf goodMask
-  mask-back = by-test (leb 2 version) (isWrite (e .kind))
-    where
-      said : Bool → ℕ → ℕ
-      said has i = getD (behind version e has ++ rest) i 0
-
-      by-test : (has write : Bool) → cond write (cond has (not (eqb (e .mask) 0)) (eqb (e .mask) allBits)) (eqb (e .mask) 0) ≡ true
-          → cond has (said has 0 + 256 * said has 1) (cond write allBits 0) ≡ e .mask
-      by-test true write kept = omega arith
-      by-test false true kept = sym (eqb-true (e .mask) allBits kept)
-      by-test false false kept = sym (eqb-true (e .mask) 0 kept)
+  mask-back kept =
+      ⊎-elim
+      (λ (old : version < 2). implied-mask version (e .kind) (e .mask) _ old kept)
+      (λ (new : 2 ≤ version).
+      let all : since 2 version (lowHigh (e .mask)) ≡ lowHigh (e .mask) = ap (λ (has : Bool). cond has (lowHigh (e .mask)) []) (le-leb 2 version new) in
+      ap (maskIn version) (split ∙ ap (λ (l : List ℕ). (e .kind ∷ e .reg ∷ (lowHigh (e .value) ++ l)) ++ after) all)
+      ∙ said-mask version (e .kind) _ new ∙ (omega arith))
+      (below-or-not version 2)
 
 module _ (h : Header) (e : Entry) (fits : Fits (h .version) e) (rules : Keeps h e) (rest : List ℕ) where
   abbrev v : ℕ

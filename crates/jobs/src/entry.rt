@@ -42,28 +42,6 @@ pub fn is_good_entry(header: Header, front: &[u8]) -> bool
     is_good_mask(header.version, q.kind, mask_in(header.version, front))
 }
 
-// An entry that is known to stand at a place.
-pub(crate) fn entry_known_at(header: Header, file: &[u8], at: usize) -> Next
-    requires { ⌜ (at ≤ length (now file)) × (goodEntry header (drop at (now file)) ≡ true) ⌝ }
-    ensures { λ r. ⌜ r ≡ placedIn header at (drop at (now (file .entry))) ⌝ }
-{
-    let words = words_in(header.version, &file[at..]) as usize;
-    let question = question_in(header, &file[at..]);
-    let mask = mask_in(header.version, &file[at..]);
-    let start = at + field_size(header.version);
-    Next::Entry(
-        EntryAt {
-            question,
-            mask,
-            start,
-            words,
-        },
-        Cursor {
-            at: start + 2 * words,
-        },
-    )
-}
-
 // Its size in bytes.
 pub fn size_in(version: u16, front: &[u8]) -> usize
     ensures { λ r. ⌜ r ≡ sizeIn version (now (front .entry)) ⌝ }
@@ -118,4 +96,26 @@ fn question_in(header: Header, front: &[u8]) -> Question
     let device = front[behind];
     let seed = front[behind + 1];
     ask(kind, header.n, header.alive, reg, value, device, seed)
+}
+
+// An entry that is known to stand at a place.
+pub(crate) fn entry_known_at(header: Header, file: &[u8], at: usize) -> Next
+    requires { ⌜ (at ≤ length (now file)) × (goodEntry header (drop at (now file)) ≡ true) ⌝ }
+    ensures { λ r. ⌜ r ≡ placedIn header at (drop at (now (file .entry))) ⌝ }
+{
+    let words = words_in(header.version, &file[at..]) as usize;
+    let question = question_in(header, &file[at..]);
+    let mask = mask_in(header.version, &file[at..]);
+    let start = at + field_size(header.version);
+    Next::Entry(
+        EntryAt {
+            question,
+            mask,
+            start,
+            words,
+        },
+        Cursor {
+            at: start + 2 * words,
+        },
+    )
 }

@@ -1,1 +1,2 @@
+pub mod MaskOf
 pub mod Agree
