@@ -4,19 +4,25 @@
 as such lines; writing what was shown gives the same bytes again. The format
 and the answers are those of document 01 ('The line', 'Commands and answers',
 'Job file and certificate'), version 2 of the format that of document 02, the PEC
-and the registers' names those of data sheet 004. Nothing here judges an answer:
-that is the certificate program's work. What is read stands on descriptor 3, where
-./job puts standard input.
+and the registers' names those of data sheet 004. `job ask` writes one entry as the
+program explain takes it, `job why` hands it every entry and shows what it says of
+those that were turned away (document 02). Nothing here judges an answer: that is the
+proved programs' work. What is read stands on descriptor 3, where ./job puts standard
+input.
 """
 import os
 import re
 import struct
+import subprocess
 import sys
 from collections import namedtuple
 
 USAGE = """\
-usage: job write < plan.txt > plan.bmc     words to a job file
-       job show < plan.bmc                 a job file to words
+usage: job write < plan.txt > plan.bmc          words to a job file
+       job show < plan.bmc                      a job file to words
+       job why < plan.bmc                       why each entry was turned away that was
+       job ask 3 < plan.bmc | ./run explain     the same of entry 3 alone, turned away
+                                                or not; entries count from 1
 
 A plan, with all that may stand in one:
 
@@ -42,8 +48,9 @@ digit are marked so: 12 alone is a mistake. Devices and their counts are decimal
 A long answer may go on over several lines of one form. Upper and lower case are
 the same. Words, their bits and the bytes of a file count from 0.
 
-status: 0 done; 1 not a plan or not a job file, or not read or written, with the
-reason; 2 not called like this
+status: 0 done; 1 not a plan or not a job file, or no such entry, or not read or
+written, with the reason; 2 not called like this; 4 for 'why', where the program
+explain could not be proved, built or run
 """
 
 Ask = namedtuple('Ask', 'kind register value mask device seed')
@@ -77,8 +84,15 @@ ENTRY = {1: struct.Struct('<BBHBBH'), 2: struct.Struct('<BBHHBBH')}
 PLACES = {1: dict(kind=0, register=1, value=2, device=4, seed=5, words=6),
           2: dict(kind=0, register=1, value=2, mask=4, device=6, seed=7, words=8)}
 
+# What explain takes before the words: the question's size, then the question in the
+# order of the C calls: kind, n, alive, register, value, device, seed.
+ASKED = struct.Struct('<BBBBBHBB')
+
 class Wrong(Exception):
     """Where something is wrong, what it is, and what would be right."""
+
+class NoProgram(Exception):
+    """The program explain could not be proved, built or run."""
 
 def asked(kind, **fields):
     """What is not said is 0, but for a write's mask, which is all bits."""
@@ -374,17 +388,65 @@ def answer_text(words):
         lines.append(f"  answer words {' '.join(text[start:end]):63}  # {named}")
     return lines
 
+def opened(data):
+    """The header of a job file, and each entry's question and words."""
+    n, alive, version = header(data)
+    entries, at = [], HEADER.size
+    while at < len(data):
+        entries.append(entry(data, at, len(entries) + 1, alive, version))
+        at += ENTRY[version].size + 2 * len(entries[-1][1])
+    return n, alive, version, entries
+
 def show(data):
     """The text that `write` turns into these bytes again; there are no warnings."""
-    n, alive, version = header(data)
-    first = f'chain {n}' + ' alive' * alive + (f' version {version}' if version > 1 else '')
-    lines, at, i = [first], HEADER.size, 0
-    while at < len(data):
-        i += 1
-        ask, words = entry(data, at, i, alive, version)
+    n, alive, version, entries = opened(data)
+    lines = [f'chain {n}' + ' alive' * alive + (f' version {version}' if version > 1 else '')]
+    for i, (ask, words) in enumerate(entries, 1):
         lines += [question_text(ask, alive, version) + remark(ask, i), *answer_text(words)]
-        at += ENTRY[version].size + 2 * len(words)
     return ('\n'.join(lines) + '\n').encode(), ''
+
+# Why an entry was turned away
+def asked_of(ask, words, n, alive):
+    """A question and the words that came back, as explain takes them."""
+    front = ASKED.pack(ASKED.size - 1, ask.kind, n, alive, ask.register, ask.value,
+                       ask.device, ask.seed)
+    return front + struct.pack(f'<{len(words)}H', *words)
+
+def ask_entry(data, named):
+    """Entry `named`, a number in decimal, as explain takes it."""
+    n, alive, _, entries = opened(data)
+    for i, (ask, words) in enumerate(entries, 1):
+        if str(i) == named.lstrip('0'):
+            return asked_of(ask, words, n, alive), ''
+    there = f'entries 1 to {len(entries)}' if entries else 'no entries'
+    raise Wrong(f'there is no entry {quote(named)[1:-1]}: the file has {there}')
+
+# Proves and builds the program where that is not yet done, and prints the words
+# that run it, each with a zero byte behind it.
+BUILD = r'''tools/prove check explain > /dev/null && words=$(./run --command explain) &&
+eval "words=($words)" && printf '%s\0' "${words[@]}"'''
+
+def program():
+    """The words that run explain. What went wrong was said on standard error."""
+    tree = os.path.dirname(os.path.dirname(os.path.abspath(__file__)))
+    built = subprocess.run(['bash', '-c', BUILD], cwd=tree, stdin=subprocess.DEVNULL,
+                           stdout=subprocess.PIPE, check=False)
+    if built.returncode != 0:
+        raise NoProgram
+    return built.stdout.split(b'\0')[:-1]
+
+def why(data):
+    """What explain says of each entry that was turned away."""
+    n, alive, _, entries = opened(data)
+    words_that_run, out = program() if entries else [], b''
+    for i, (ask, words) in enumerate(entries, 1):
+        told = subprocess.run(words_that_run, input=asked_of(ask, words, n, alive),
+                              stdout=subprocess.PIPE, check=False)
+        if told.returncode != 0:
+            raise NoProgram(f'explain ended with status {told.returncode}')
+        if told.stdout != b'accepted\n':
+            out += b'entry %d\n' % i + re.sub(rb'(?m)^(?=.)', b'  ', told.stdout)
+    return out, ''
 
 # The program. It reads and writes by descriptor: no buffer is left that could
 # fail after the end, and a closed stream is an error like any other.
@@ -411,16 +473,22 @@ def put(descriptor, data):
 def main(arguments):
     if arguments in (['--help'], ['-h']):
         return 0 if put(OUTPUT, USAGE.encode()) else 1
-    if arguments not in (['write'], ['show']):
+    work = {('write',): write, ('show',): show, ('why',): why}.get(tuple(arguments))
+    if arguments[:1] == ['ask'] and re.fullmatch('[0-9]+', ' '.join(arguments[1:])):
+        work = lambda data: ask_entry(data, arguments[1])
+    if work is None:
         said = ' '.join(quote(word) for word in arguments) or 'nothing'
-        put(COMPLAINTS, f"job: 'write', 'show' or '--help' is wanted, and here is {said}\n".encode())
+        put(COMPLAINTS, "job: 'write', 'show', 'why', 'ask' with an entry's number or "
+                        f"'--help' is wanted, and here is {said}\n".encode())
         return 2
     try:
-        writing = arguments == ['write']
-        out, warnings = write(get(TEXT_MOST)) if writing else show(get(FILE_MOST))
+        out, warnings = work(get(TEXT_MOST if work is write else FILE_MOST))
     except Wrong as wrong:
         put(COMPLAINTS, f'job: {wrong}\n'.encode())
         return 1
+    except NoProgram as wrong:
+        put(COMPLAINTS, f'job: {wrong}\n'.encode() if wrong.args else b'')
+        return 4
     put(COMPLAINTS, warnings.encode())
     return 0 if put(OUTPUT, out) else 1
 

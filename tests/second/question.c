@@ -68,6 +68,12 @@ size_t s_pec_place(unsigned kind, size_t values)
     return s_is_write(kind) ? 4 : 2 + 2 * values + 1;
 }
 
+/* Each device that acts adds one, and after FFh comes 00h. */
+unsigned s_alive_byte(struct s_question q)
+{
+    return (q.seed + (s_is_for_one(q.kind) ? 1 : q.n)) % 256;
+}
+
 /* 01, 'Turned away', row 1. */
 int s_is_good_question(struct s_question q)
 {

@@ -35,4 +35,7 @@ size_t s_byte_count(struct s_question q);
 uint8_t s_command_byte(struct s_question q);
 size_t s_pec_place(unsigned kind, size_t values);
 
+/* The alive byte of the answer. */
+unsigned s_alive_byte(struct s_question q);
+
 #endif

@@ -72,12 +72,11 @@ static int is_pec_right(struct s_question q, const uint8_t *bytes)
     return bytes[place] == s_pec(bytes, place);
 }
 
-/* Row 9: seed plus the devices that act, after FFh comes 00h. */
+/* Row 9. */
 static int is_alive_right(struct s_question q, const uint8_t *bytes)
 {
     size_t place = s_pec_place(q.kind, s_value_count(q)) + 1;
-    unsigned acting = s_is_for_one(q.kind) ? 1 : q.n;
-    return !q.alive || bytes[place] == (q.seed + acting) % 256;
+    return !q.alive || bytes[place] == s_alive_byte(q);
 }
 
 /* HELLOALL has neither PEC nor alive byte: rows 7 and 11. */

@@ -28,7 +28,8 @@
     part(job_files)   \
     part(rehearsals)  \
     part(runs)        \
-    part(masks)
+    part(masks)       \
+    part(reasons)
 
 #define DECLARE(name) void check_##name(void);
 PARTS(DECLARE)

@@ -1,5 +1,4 @@
-/* standard.h: a program over job files: standard input, and what is answered on
- * standard output. */
+/* standard.h: standard input, and what a program answers on standard output. */
 #ifndef SECOND_PROGRAMS_STANDARD_H
 #define SECOND_PROGRAMS_STANDARD_H
 
@@ -7,7 +6,7 @@
 
 #include <stdio.h>
 
-/* One byte more than a file may have, so that a longer one is noticed. */
+/* One byte more than an input may have, so that a longer one is noticed. */
 static uint8_t file[65537];
 
 /* Whether all of it could be read. */
@@ -17,7 +16,7 @@ static int take_in(size_t *bytes)
     return !ferror(stdin);
 }
 
-/* What was written, or the number that turned the file away. The exit status is
+/* What was written, or the number that turned the input away. The exit status is
  * 0 unless the output could not be written. */
 static int put_out(int number, const void *out, size_t written)
 {
