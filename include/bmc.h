@@ -1,8 +1,8 @@
 /*
  * bmc.h: the battery bench's wire software, as C sees it.
  *
- * Commands written, answers read, cell registers turned into volts, a twin of
- * a chain of monitors, and the certificate of a job file. The library keeps no
+ * Commands written, answers read and refusals explained, cell registers turned
+ * into volts, a twin of a chain of monitors, and the certificate of a job file. The library keeps no
  * memory of its own between calls, allocates nothing and prints nothing.
  *
  * Built for x86-64, aarch64, riscv64, riscv32imac, cortex-m4 and cortex-m0, each
@@ -19,7 +19,7 @@
  * its result: 0 when it was accepted, else the number of the first check that
  * failed, in the order given at each call. Two calls refuse nothing and carry no
  * number: bmc_part, whose lowest byte is a count of words, and bmc_pec, whose
- * lowest byte is the PEC. A refused call changes no byte of lent memory. What an
+ * lowest byte is the PEC. bmc_explain carries the number of bmc_read. A refused call changes no byte of lent memory. What an
  * accepted call does not write stays as it is. Bits of a result that are not
  * mentioned are 0.
  *
@@ -35,6 +35,7 @@
  *   bmc_cells                                                  500 bytes
  *   bmc_pec                                                   1500 bytes
  *   bmc_read, bmc_part                                        2400 bytes
+ *   bmc_explain                                               3000 bytes
  *   bmc_twin_power_on, bmc_twin_step, bmc_twin_run            3000 bytes
  *   bmc_certificate                                          10700 bytes
  * Beside it stands the memory that is lent: a twin of n devices has 512 * n
@@ -64,11 +65,11 @@
  * calls and with what an old call takes that it refused before; the first would,
  * should an old call ever lose its meaning. */
 #define BMC_VERSION_MAJOR 1
-#define BMC_VERSION_MINOR 2
+#define BMC_VERSION_MINOR 3
 #define BMC_VERSION_PATCH 0
 #define BMC_VERSION \
     (10000 * BMC_VERSION_MAJOR + 100 * BMC_VERSION_MINOR + BMC_VERSION_PATCH)
-#define BMC_VERSION_TEXT "1.2.0"
+#define BMC_VERSION_TEXT "1.3.0"
 
 /* What C89, later C and C++ say differently. */
 #ifdef __cplusplus
@@ -171,7 +172,8 @@ enum {
 /* bmc_read: the byte of CHECK and COUNT, the count of an accepted HELLOALL. */
 #define BMC_BYTE(result) BMC_AS(uint8_t, (result) >> 8 & 0xFFu)
 
-/* bmc_read: the place of CHARACTER and MANCHESTER. */
+/* bmc_read: the place of CHARACTER and MANCHESTER. bmc_explain: the place of every
+ * number, counted as BMC_WHY_HOW says. */
 #define BMC_PLACE(result) BMC_AS(uint16_t, (result) >> 16 & 0xFFFFu)
 
 /* bmc_read, bmc_command, when accepted: the values or words written. */
@@ -180,6 +182,33 @@ enum {
 /* bmc_part: how many words the part has, and the place of its first. */
 #define BMC_PART_WORDS(result) BMC_AS(uint8_t, (result) & 0xFFu)
 #define BMC_PART_PLACE(result) BMC_AS(uint16_t, (result) >> 16 & 0xFFFFu)
+
+/* bmc_explain: how the place is counted; 1 when one thing alone would have passed;
+ * nothing as yet, always 0; what stood at the place; and the one thing, else 0. */
+#define BMC_WHY_HOW(result) BMC_AS(uint8_t, (result) >> 8 & 0x7u)
+#define BMC_WHY_ONE(result) BMC_AS(uint8_t, (result) >> 11 & 0x1u)
+#define BMC_WHY_FAULT(result) BMC_AS(uint8_t, (result) >> 12 & 0xFu)
+#define BMC_WHY_STOOD(result) \
+    BMC_AS(uint16_t, BMC_AS(uint64_t, result) >> 32 & 0xFFFFu)
+#define BMC_WHY_RIGHT(result) \
+    BMC_AS(uint16_t, BMC_AS(uint64_t, result) >> 48 & 0xFFFFu)
+
+/* BMC_WHY_HOW: how the place of bmc_explain is counted. Byte i of a line is its
+ * words 1 + 2 * i and 2 + 2 * i. */
+enum {
+    BMC_AT_WORD = 1,    /* a word of the line, from 0 */
+    BMC_AT_BYTE = 2,    /* a byte of the answer, from 0 */
+    BMC_AT_LINE = 3,    /* the whole line; the place is 0 */
+    BMC_AT_FIELD = 4    /* a field of the question, as below */
+};
+
+/* The fields that QUESTION can name: their places among the call's arguments. */
+enum {
+    BMC_FIELD_KIND = 0,
+    BMC_FIELD_N = 1,
+    BMC_FIELD_ALIVE = 2,
+    BMC_FIELD_DEVICE = 5
+};
 
 /* bmc_cell, and each answer of bmc_cells: 1 when the cell was measured and its
  * microvolts and volts were written. */
@@ -263,6 +292,36 @@ BMC_CALL uint32_t bmc_command(uint8_t kind, uint8_t n, uint8_t alive, uint8_t re
 BMC_CALL uint32_t bmc_part(uint8_t kind, uint8_t n, uint8_t alive, uint8_t reg,
                            uint16_t value, uint8_t device, uint8_t seed, uint8_t named,
                            const uint8_t *line, size_t line_bytes);
+
+/*
+ * Why an answer is turned away, for whoever has to mend it. It is lent no output
+ * and writes nothing. The result has 64 bits, and is 0 exactly when bmc_read with
+ * room for 32 values accepts this line for this question. Else BMC_NUMBER is the
+ * number that bmc_read gives (never ROOM), and the other macros say where its check
+ * fails, at the lowest such place; what stood there; and, where BMC_WHY_ONE is 1,
+ * BMC_WHY_RIGHT: this and nothing else there would have passed that check, with
+ * everything else as it stands. Where BMC_WHY_ONE is 0 several things would have
+ * passed, and BMC_WHY_RIGHT is 0.
+ *   number      place        what stood           the one thing
+ *   QUESTION    a field      the field            0 for device where n is 1
+ *   LENGTH      the line     its bytes            the answer's bytes
+ *   CHARACTER   a word       the word             -
+ *   FRAME       first word   the word             0E2Ah
+ *               last word    the word             0EA8h
+ *   MANCHESTER  a word       the word             -
+ *   ECHO        a byte       the byte             the byte as asked
+ *   PEC         its byte     the byte             the PEC of the bytes before it
+ *   ALIVE       its byte     the byte             as in the table above
+ *   CHECK       its byte     the byte             00h
+ *   COUNT       its byte     the byte             -
+ * QUESTION names the first of kind, alive, n and device that breaks its own rule;
+ * FRAME the last word only where the first is the preamble; ECHO the lowest byte
+ * that is not as asked. LENGTH counts bytes, and 65,535 stands for that many and
+ * more. Bits 12..15, BMC_WHY_FAULT, are 0.
+ */
+BMC_CALL uint64_t bmc_explain(uint8_t kind, uint8_t n, uint8_t alive, uint8_t reg,
+                              uint16_t value, uint8_t device, uint8_t seed,
+                              const uint8_t *line, size_t line_bytes);
 
 /*
  * A cell's voltage from its register. The measurement m is the register divided
@@ -395,8 +454,8 @@ BMC_CALL uint32_t bmc_pec(const uint8_t *bytes, size_t byte_count);
  * exchanged unseen:
  *     bmc_question q = { 0 };
  *     q.kind = BMC_READALL; q.n = 3; q.reg = BMC_REGISTER_CELL(1);
- * and the three calls that take one: bmc_command, bmc_read and bmc_part with the
- * question's fields in their places.
+ * and the four calls that take one: bmc_command, bmc_read, bmc_part and bmc_explain
+ * with the question's fields in their places.
  */
 typedef struct bmc_question {
     uint8_t kind;
@@ -428,6 +487,13 @@ BMC_INLINE uint32_t bmc_question_part(const bmc_question *q, uint8_t named,
 {
     return bmc_part(q->kind, q->n, q->alive, q->reg, q->value, q->device,
                     q->seed, named, line, line_bytes);
+}
+
+BMC_INLINE uint64_t bmc_question_explain(const bmc_question *q,
+                                         const uint8_t *line, size_t line_bytes)
+{
+    return bmc_explain(q->kind, q->n, q->alive, q->reg, q->value, q->device,
+                       q->seed, line, line_bytes);
 }
 
 /* Word k of some bytes, and word k put among them: a line's word at place k, the
@@ -520,6 +586,19 @@ BMC_INLINE uint32_t bmc_part(uint8_t kind, uint8_t n, uint8_t alive,
 {
     return bmc64_part(kind, n, alive, reg, value, device, seed, named, line,
                       line_bytes);
+}
+
+uint64_t bmc64_explain(uint8_t kind, uint8_t n, uint8_t alive, uint8_t reg,
+                       uint16_t value, uint8_t device, uint8_t seed,
+                       const uint8_t *line, uint64_t line_bytes);
+
+BMC_INLINE uint64_t bmc_explain(uint8_t kind, uint8_t n, uint8_t alive,
+                                uint8_t reg, uint16_t value, uint8_t device,
+                                uint8_t seed, const uint8_t *line,
+                                size_t line_bytes)
+{
+    return bmc64_explain(kind, n, alive, reg, value, device, seed, line,
+                         line_bytes);
 }
 
 uint32_t bmc64_cell(uint8_t cell, uint16_t enabled, uint16_t reg,

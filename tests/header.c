@@ -5,7 +5,7 @@
 #include "bmc.h"
 #include "bmc.h"
 
-#if BMC_VERSION < 10100
+#if BMC_VERSION < 10300
 #error "this header is older than its macros"
 #endif
 
@@ -14,6 +14,7 @@ uint32_t use_cells(int32_t *microvolts, float *volts, uint32_t *answers,
                    const uint8_t *device);
 uint32_t use_results(uint32_t result, char *name);
 uint32_t use_question(uint8_t *out, size_t out_bytes);
+uint32_t use_reason(const uint8_t *line, size_t line_bytes);
 
 uint32_t use_calls(uint8_t *memory, const uint8_t *line, size_t line_bytes)
 {
@@ -67,4 +68,27 @@ uint32_t use_question(uint8_t *out, size_t out_bytes)
     return bmc_question_command(&q, out, out_bytes)
         | bmc_question_read(&q, out, out_bytes, out, 0)
         | bmc_question_part(&q, 0, out, out_bytes);
+}
+
+uint32_t use_reason(const uint8_t *line, size_t line_bytes)
+{
+    bmc_question q = { BMC_READDEVICE, 1, 0, 0, 0, 0, 0 };
+    uint64_t why = bmc_explain(BMC_READALL, 1, 0, 2, 0, 0, 0, line, line_bytes)
+        | bmc_question_explain(&q, line, line_bytes);
+    uint32_t all = BMC_NUMBER(why);
+    all ^= BMC_PLACE(why);
+    all ^= BMC_WHY_ONE(why);
+    all ^= BMC_WHY_FAULT(why);
+    all ^= BMC_WHY_STOOD(why);
+    all ^= BMC_WHY_RIGHT(why);
+    switch (BMC_WHY_HOW(why)) {
+    case BMC_AT_WORD: return all ^ BMC_AT_BYTE;
+    case BMC_AT_LINE: return all ^ BMC_AT_FIELD;
+    default: break;
+    }
+    switch (BMC_PLACE(why)) {
+    case BMC_FIELD_KIND: return all ^ BMC_FIELD_N;
+    case BMC_FIELD_ALIVE: return all ^ BMC_FIELD_DEVICE;
+    default: return all;
+    }
 }

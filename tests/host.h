@@ -53,7 +53,7 @@ void set_question(const char *call, const char *names, struct s_question q,
 
 /* One side's answer: the result and the memory it wrote into. */
 struct side {
-    uint32_t result;
+    uint64_t result;
     const uint8_t *memory;
     size_t bytes;
 };
@@ -102,6 +102,7 @@ uint32_t expect_read(struct s_question q, const uint8_t *line, size_t line_bytes
 uint32_t expect_command(struct s_question q, uint8_t *out, size_t out_bytes);
 uint32_t expect_part(struct s_question q, unsigned named,
                      const uint8_t *line, size_t line_bytes);
+uint64_t expect_explain(struct s_question q, const uint8_t *line, size_t line_bytes);
 uint32_t expect_cell(unsigned cell, unsigned enabled, unsigned reg,
                      unsigned bipolar, int32_t *microvolts, float *volts);
 /* The three outputs of bmc_cells, and how many numbers each has room for. */
@@ -253,7 +254,8 @@ void try_nearly_right_chains(struct chain *c);
     part("twin", try_twin)                     \
     part("certificates", try_certificates)     \
     part("masked bits", try_masked)            \
-    part("whole chains", try_runs)
+    part("whole chains", try_runs)             \
+    part("reasons", try_reasons)
 
 #define DECLARE(name, run) void run(void);
 PARTS(DECLARE)

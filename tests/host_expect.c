@@ -13,6 +13,7 @@
 #include "second/command.h"
 #include "second/part.h"
 #include "second/reader.h"
+#include "second/reasons.h"
 #include "second/registers.h"
 #include "second/twin.h"
 
@@ -78,6 +79,15 @@ uint32_t expect_part(struct s_question q, unsigned named,
     size_t start, length, count = line_words(line, line_bytes, words);
     s_part(q, named, words, count, &start, &length);
     return packed((unsigned)length, 0, start);
+}
+
+/* Sixteen bits of what stood and of what is right: a longer line is 65,535. */
+uint64_t expect_explain(struct s_question q, const uint8_t *line, size_t line_bytes)
+{
+    struct s_reason r = s_explain(q, line, line_bytes);
+    uint64_t stood = r.stood < 65535 ? r.stood : 65535;
+    return (uint64_t)r.number | (uint64_t)r.how << 8 | (uint64_t)r.one << 11
+        | (uint64_t)r.place << 16 | stood << 32 | (uint64_t)r.right << 48;
 }
 
 uint32_t expect_cell(unsigned cell, unsigned enabled, unsigned reg,

@@ -54,7 +54,7 @@ static void print_trial(void)
 
 static void print_side(const char *who, const char *memory, struct side side)
 {
-    printf("  %s: result %08" PRIX32 "h\n", who, side.result);
+    printf("  %s: result %08" PRIX64 "h\n", who, side.result);
     if (side.bytes > 0)
         print_bytes(memory, side.memory, side.bytes);
 }

@@ -18,7 +18,7 @@ int memcmp(const void *a, const void *b, size_t bytes);
 int strcmp(const char *a, const char *b);
 unsigned long long strtoull(const char *text, char **end, int base);
 
-/* printing: %s %c %d %u %lu %llu %zu, and %02X and %08lX; fflush has nothing to
+/* printing: %s %c %d %u %lu %llu %zu, and %02X and %08llX; fflush has nothing to
  * do, since every call prints at once */
 typedef struct { int descriptor; } FILE;
 extern FILE *const stdout, *const stderr;
@@ -29,7 +29,7 @@ int snprintf(char *to, size_t room, const char *format, ...)
     __attribute__((format(printf, 3, 4)));
 int fflush(FILE *of);
 #define PRIu64 "llu"
-#define PRIX32 "lX"
+#define PRIX64 "llX"
 
 /* the system */
 void exit(int status) __attribute__((noreturn));
