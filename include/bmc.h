@@ -2,8 +2,9 @@
  * bmc.h: the battery bench's wire software, as C sees it.
  *
  * Commands written, answers read and refusals explained, cell registers turned
- * into volts, a twin of a chain of monitors, and the certificate of a job file. The library keeps no
- * memory of its own between calls, allocates nothing and prints nothing.
+ * into volts, a twin of a chain of monitors, and the certificate of a job file.
+ * The library keeps no memory of its own between calls, allocates nothing and
+ * prints nothing.
  *
  * Built for x86-64, aarch64, riscv64, riscv32imac, cortex-m4 and cortex-m0, each
  * by its C calling convention. This header is the same for all of them, in C
@@ -19,9 +20,9 @@
  * its result: 0 when it was accepted, else the number of the first check that
  * failed, in the order given at each call. Two calls refuse nothing and carry no
  * number: bmc_part, whose lowest byte is a count of words, and bmc_pec, whose
- * lowest byte is the PEC. bmc_explain carries the number of bmc_read. A refused call changes no byte of lent memory. What an
- * accepted call does not write stays as it is. Bits of a result that are not
- * mentioned are 0.
+ * lowest byte is the PEC. bmc_explain carries the number of bmc_read. A refused
+ * call changes no byte of lent memory. What an accepted call does not write stays
+ * as it is. Bits of a result that are not mentioned are 0.
  *
  * THREADS AND INTERRUPTS. There is no state: any number of calls may run at once,
  * on any threads and in interrupts, each on memory of its own; memory that a call
