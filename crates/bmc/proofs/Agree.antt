@@ -5,6 +5,7 @@ use Rattle.ground.specs.Agree.{Settled, SettledIn}
 use Rattle.bmc.proofs.bmc_read.Reads as read
 use Rattle.bmc.proofs.bmc_command.Reads as command
 use Rattle.bmc.proofs.bmc_part.Reads as part
+use Rattle.bmc.proofs.bmc_explain.Reads as explain
 use Rattle.bmc.proofs.bmc_cell.Reads as cell
 use Rattle.bmc.proofs.bmc_cells.Reads as cells
 use Rattle.bmc.proofs.bmc_certificate.Reads as certificate
@@ -27,6 +28,9 @@ command-settled-out l given r r′ left left′ p q = p .leaves ∙ sym (q .leav
 
 pub part-settled : Settled part.Post
 part-settled l given r r′ left left′ p q = p ∙ sym q
+
+pub explain-settled : Settled explain.Post
+explain-settled l given r r′ left left′ p q = p ∙ sym q
 
 pub cell-settled : Settled cell.Post
 cell-settled l given r r′ left left′ p q = p .says ∙ sym (q .says)

@@ -5,6 +5,7 @@ use c_cells::cells_into;
 use c_commands::command_bytes;
 use c_parts::part_bytes;
 use c_reader::read_bytes;
+use c_reasons::explain_packed;
 use c_twin::power_on_bytes;
 use c_twin::run_bytes;
 use c_twin::step_bytes;
@@ -19,6 +20,7 @@ ghost use Rattle.questions.specs.Question.{asking};
 ghost use Rattle.c_commands.specs.CommandBytes.{CommandBytesDone};
 ghost use Rattle.c_reader.specs.ReadBytes.{ReadBytesDone};
 ghost use Rattle.c_parts.specs.PartBytes.{partIn};
+ghost use Rattle.c_reasons.specs.Explain.{packedOn};
 ghost use Rattle.c_cells.specs.CellBytes.{CellDone};
 ghost use Rattle.c_cells.specs.CellsBytes.{CellsDone};
 ghost use Rattle.c_twin.specs.TwinBytes.{PowerBytesDone, StepBytesDone, RunBytesDone};
@@ -139,6 +141,24 @@ pub extern "C" fn bmc_cells(
     ensures { λ r. ⌜ CellsDone enabled bipolar (now (registers .entry)) (now (microvolts .entry)) (now (microvolts .exit)) (now (volts .entry)) (now (volts .exit)) (now (answers .entry)) (now (answers .exit)) r ⌝ }
 {
     cells_into(enabled, bipolar, registers, microvolts, volts, answers)
+}
+
+// Why a line is accepted or turned away, in one number.
+#[no_mangle]
+pub extern "C" fn bmc_explain(
+    kind: u8,
+    n: u8,
+    alive: u8,
+    reg: u8,
+    value: u16,
+    device: u8,
+    seed: u8,
+    line: &[u8],
+) -> u64
+    ensures { λ r. ⌜ r ≡ packedOn (asking kind n alive reg value device seed) (now (line .entry)) ⌝ }
+{
+    let answered = ask(kind, n, alive, reg, value, device, seed);
+    explain_packed(answered, line)
 }
 
 // The PEC of some bytes, for firmware that frames its own.
