@@ -46,6 +46,7 @@ use Rattle.promises.proofs.RefusedWritesNothing.{refused-print, refused
 use Rattle.promises.proofs.RefusedBytes.{refused-read-bytes, refused-command-bytes, refused-cell, refused-cells}
 use Rattle.promises.proofs.RefusedBytes.{refused-power-bytes, refused-steps, refused-certificate-bytes}
 use Rattle.promises.proofs.CSideLine.{number-packed}
+use Rattle.promises.proofs.WhyNumbers.{explain-due, explain-bytes-due, explain-packed-due}
 use Rattle.promises.proofs.OwnCell.{own-cell}
 
 -- a contract that names the answer and what is left has one answer
@@ -119,6 +120,7 @@ demand-1 = record {
   read = λ q line out.
       one (record { says = refl; leaves = refl }) (λ after r done. (done .says, done .leaves)) (by-number q line (length out)) (refused-read q line out);
   register-part = λ q line device. one refl (λ after r done. (done, nothing after)) refl (λ after r done away. nothing after);
+  explain = λ q line. one refl (λ after r done. (done, nothing after)) (explain-due q line) (λ after r done away. nothing after);
   write-command = λ q out.
       one (record { says = refl; leaves = refl }) (λ after r done. (done .says, done .leaves)) (command-due q (length out)) (refused-command q out);
   put-line = λ bytes out.
@@ -159,6 +161,8 @@ demand-1 = record {
       (refused-rehearsal file out);
   read-bytes = λ q line out.
       one (record { says = refl; leaves = refl }) (λ after r done. (done .says, done .leaves)) (read-bytes-due q line out) (refused-read-bytes q line out);
+  explain-bytes = λ q line. one refl (λ after r done. (done, nothing after)) (explain-bytes-due q line) (λ after r done away. nothing after);
+  explain-packed = λ q line. one refl (λ after r done. (done, nothing after)) (explain-packed-due q line) (λ after r done away. nothing after);
   pec = λ bytes. one refl (λ after r done. (done, nothing after)) refl (λ after r done away. nothing after);
   part-bytes = λ q device line. one refl (λ after r done. (done, nothing after)) refl (λ after r done away. nothing after);
   command-bytes = λ q out.

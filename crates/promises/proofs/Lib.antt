@@ -7,6 +7,7 @@ pub mod RefusedWritesNothing
 pub mod RefusedBytes
 pub mod CSidePacked
 mod OwnCell
+mod WhyNumbers
 pub mod Demand1
 pub mod OwnLetter
 mod LinesInOrder
@@ -23,6 +24,12 @@ pub mod Undetected
 pub mod WhereItEnds
 pub mod EachStep
 pub mod RoundTrip
+mod RowsPassed
+mod ChecksPass
+mod FieldsTold
+mod SpotsTold
+mod EchoTold
+pub mod TellMeWhy
 pub mod StarredNumbers
 pub mod SecondCall
 mod CSideLine
@@ -30,3 +37,4 @@ pub mod CSideCommands
 pub mod CSideAnswers
 mod BytesTurned
 pub mod CSideDamage
+pub mod CSideWhy

@@ -19,6 +19,7 @@ use Rattle.questions.specs.declared.question.Question.{Question}
 use Rattle.readings.specs.Reading.{numberOf}
 use Rattle.reader.specs.Read.{ReadDone}
 use Rattle.parts.specs.Part.{partOf}
+use Rattle.reasons.specs.Reason.{reasonOf, reasonNumber}
 use Rattle.commands.specs.Command.{CommandPut, issuedNumber}
 use Rattle.cells.specs.Cell.{enabled, cellOf, cellsOf, cellNumber}
 use Rattle.cells.specs.declared.Range.{Range}
@@ -42,6 +43,7 @@ use Rattle.rehearsal.specs.Rehearsal.{RehearsalDone, rehearsedNumber}
 use Rattle.c_reader.specs.ReadBytes.{ReadBytesDone}
 use Rattle.c_commands.specs.CommandBytes.{CommandBytesDone}
 use Rattle.c_parts.specs.PartBytes.{partIn}
+use Rattle.c_reasons.specs.Explain.{reasonOn, packedOn}
 use Rattle.c_cells.specs.CellBytes.{CellDone}
 use Rattle.c_cells.specs.CellsBytes.{CellsDone}
 use Rattle.c_twin.specs.TwinBytes.{PowerBytesDone, StepBytesDone, RunBytesDone}
@@ -101,6 +103,8 @@ pub record Demand1 : Type 0 where
   -- the reader and the second call, which refuses nothing (what it hands back: SecondCall.antt); the command writer, and the writing of a line
   pub read : (q : Question) (line out : List ℕ) → Answers (readRows q line (length out)) numberOf out (ReadDone q line out)
   pub register-part : (q : Question) (line : List ℕ) (device : ℕ) → Replies [] (λ part. 0) (Returns (partOf q line device))
+  -- why the reader takes a line or turns it away, by the reader's own rows; there is room for the values of 32 devices
+  pub explain : (q : Question) (line : List ℕ) → Replies (readRows q line 32) reasonNumber (Returns (reasonOf q line))
   pub write-command : (q : Question) (out : List ℕ) → Answers (commandRows q (length out)) issuedNumber out (CommandPut q out)
   pub put-line : (bytes out : List ℕ) → Answers (room (length out) (length (lineOf bytes)) ∷ []) putNumber out (LinePut bytes out)
   -- a cell; twelve cells, each by its own register
@@ -132,6 +136,8 @@ pub record Demand1 : Type 0 where
   pub rehearse : (file out : List ℕ) → Bytes file → Answers (rehearseRows file (length out)) rehearsedNumber out (RehearsalDone file out)
   -- the C side's calls, over bytes: an odd number of them is as no line at all, and so LENGTH; two are room for a word
   pub read-bytes : (q : Question) (line out : List ℕ) → Answers (readRows q (lineOn line) (length out / 2)) packedNumber out (ReadBytesDone q line out)
+  pub explain-bytes : (q : Question) (line : List ℕ) → Replies (readRows q (lineOn line) 32) reasonNumber (Returns (reasonOn q line))
+  pub explain-packed : (q : Question) (line : List ℕ) → Replies (readRows q (lineOn line) 32) packedNumber (Returns (packedOn q line))
   pub pec : (bytes : List ℕ) → Replies [] (λ pec. 0) (Returns (pecOf bytes))
   pub part-bytes : (q : Question) (device : ℕ) (line : List ℕ) → Replies [] (λ part. 0) (Returns (partIn q device line))
   pub command-bytes : (q : Question) (out : List ℕ) → Answers (commandRows q (length out / 2)) packedNumber out (CommandBytesDone q out)

@@ -11,6 +11,7 @@ pub mod EachStep
 pub mod RoundTrip
 pub mod OwnLetter
 pub mod MaskedBits
+pub mod TellMeWhy
 pub mod StarredNumbers
 pub mod CSide
 pub mod SecondCall
@@ -18,3 +19,4 @@ pub mod CSideCommands
 pub mod CSideAnswers
 pub mod CSideDamage
 pub mod CSidePacked
+pub mod CSideWhy
