@@ -60,7 +60,7 @@ fn field(f: Field) {
     }
 }
 
-// A byte of the line is two of its words. No answer has more than 69 bytes.
+// A byte of the line is two of its words. No answer has more than 69 bytes: the bound keeps the sum small, and is never met.
 fn byte_place(i: usize) {
     let low = 1 + 2 * least(i, 69);
     text(b"byte ");

@@ -34,10 +34,10 @@ use Rattle.promises.proofs.EchoTold.{told-echo}
 
 -- ---- room plays no part where the values have it
 
-same-room : (q : asked.Question) (line : List ℕ) (room : ℕ) → shapeOf q .values ≤ room → judgeOf q line room ≡ judgeOf q line 32
+same-room : (q : asked.Question) (line : List ℕ) (room : ℕ) → min (shapeOf q .values) 32 ≤ room → judgeOf q line room ≡ judgeOf q line 32
 same-room q line room enough =
     ⊎-elim
-    (λ (few : room < 32). enough-room q line room enough ∙ sym (enough-room q line 32 (omega arith)))
+    (λ (few : room < 32). enough-room q line room (omega arith) ∙ sym (enough-room q line 32 (omega arith)))
     (λ (many : 32 ≤ room). let most : min room 32 ≡ 32 = omega arith in sym (room-enough q line room) ∙ ap (judgeOf q line) most)
     (below-or-not room 32)
 

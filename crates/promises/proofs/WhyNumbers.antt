@@ -59,10 +59,10 @@ small-rows : (q : Question) (line : List ℕ) → Small (readRows q line 32)
 small-rows q line =
     (omega arith, (omega arith, (omega arith, (omega arith, (omega arith, (omega arith, (omega arith, (omega arith, (omega arith, (omega arith, (omega arith, tt)))))))))))
 
-pub small-number : (q : Question) (line : List ℕ) → reasonNumber (reasonOf q line) < 256
+small-number : (q : Question) (line : List ℕ) → reasonNumber (reasonOf q line) < 256
 small-number q line = below-256 (readRows q line 32) (reasonNumber (reasonOf q line)) (small-rows q line) (explain-due q line)
 
-small-in-bytes : (q : Question) (line : List ℕ) → reasonNumber (reasonOn q line) < 256
+pub small-in-bytes : (q : Question) (line : List ℕ) → reasonNumber (reasonOn q line) < 256
 unfolding reasonOn
 small-in-bytes q line = omega (arith, in-bytes q (length line) (reasonOf q (lineOn line)), small-number q (lineOn line))
 

@@ -1,5 +1,5 @@
 -- TELL ME WHY (document 02, M-101). Why an answer is turned away is told, and what is told is true. Claimed of every question and every line, and of
--- every reading that meets the contract of `read` where the values have room:
+-- every reading that meets the contract of `read` where there is room for the answer's values, or for 32:
 -- accepted is said exactly where the reader accepts, and then every check passes everywhere; otherwise the refusal is the reader's, the named check fails
 -- at the named spot with what stands there, it passes at every lower spot, and every earlier check passes at every spot;
 -- where one right thing is named, that thing and no other would have passed the named check there, with everything else as it stands; where none is
@@ -8,7 +8,7 @@ use mathlib.Core.Path.{_≡_}
 use mathlib.Core.Bool.{true}
 use mathlib.Core.Logic.{_⊎_}
 use mathlib.Core.List.{List}
-use Prim.Native.Nat.{ℕ, zero, suc, _+_, _*_, _%_, _≤_, _<_}
+use Prim.Native.Nat.{ℕ, zero, suc, _+_, _*_, _%_, _≤_, _<_, min}
 use lib.ListN.{length, getD, take}
 use Rattle.pec.specs.Pec.{pecOf}
 use Rattle.characters.specs.Character.{preamble, stop}
@@ -37,11 +37,11 @@ use Rattle.promises.specs.Rows.{echo}
 use Rattle.promises.specs.Demand1.{Returns}
 
 -- what stands at a spot: in a field of the question; how many words; the word; the byte
-abbrev pub standing : asked.Question → (line : List ℕ) → Spot → ℕ
-standing q line (Asked f) = fieldIn q f
-standing q line Whole = length line
-standing q line (Word i) = getD line i 0
-standing q line (Byte i) = getD (bytesOf line) i 0
+abbrev pub thingAt : asked.Question → (line : List ℕ) → Spot → ℕ
+thingAt q line (Asked f) = fieldIn q f
+thingAt q line Whole = length line
+thingAt q line (Word i) = getD line i 0
+thingAt q line (Byte i) = getD (bytesOf line) i 0
 
 -- the spots that a row looks at, in their order: row 1 at its fields, as it names them; then the line, its words, its bytes
 abbrev pub spotAt : Refusal → (i : ℕ) → Spot
@@ -60,7 +60,8 @@ spotAt Alive i = Byte i
 spotAt (Check byte) i = Byte i
 spotAt (Count byte) i = Byte i
 
--- what a row's check asks of a thing x that stands there, everything else as it is; where it does not look, nothing (ROOM is never given: there is room)
+-- what a row's check asks of a thing x that stands there, everything else as it is; where it does not look, nothing (ROOM is never given: there is room;
+-- a kind above 4 breaks its own clause, so that what the others ask of it plays no part)
 abbrev pub Asks : asked.Question → (line : List ℕ) → Refusal → (i x : ℕ) → Type 0
 Asks q line Question zero x = x ≤ 4
 Asks q line Question (suc zero) x = x ≤ 1
@@ -79,7 +80,7 @@ Asks q line (Count byte) i x = q .kind ≡ helloAll → i ≡ 2 → (1 ≤ x) ×
 
 -- it passes with what stands there
 abbrev pub Passes : asked.Question → (line : List ℕ) → Refusal → (i : ℕ) → Type 0
-Passes q line why i = Asks q line why i (standing q line (spotAt why i))
+Passes q line why i = Asks q line why i (thingAt q line (spotAt why i))
 
 -- the one thing that would have passed; or two that would
 abbrev pub Only : (Passing : ℕ → Type 0) → Right → Type 0
@@ -90,7 +91,7 @@ Only Passing Several = (x : ℕ) × (other : ℕ) × (x < other) × Passing x ×
 pub record Told (q : asked.Question) (line : List ℕ) (b : Because) : Type 0 where
   pub place : ℕ
   pub spot : b .spot ≡ spotAt (b .why) place
-  pub stood : b .stood ≡ standing q line (b .spot)
+  pub stood : b .stood ≡ thingAt q line (b .spot)
   pub fails : Passes q line (b .why) place → ⊥
   pub lower-pass : (i : ℕ) → i < place → Passes q line (b .why) i
   pub earlier-pass : (why : Refusal) → refusalNumber why < refusalNumber (b .why) → (i : ℕ) → Passes q line why i
@@ -103,5 +104,5 @@ TrueOf q line r (TurnedAway b) = (r ≡ Refused (b .why)) × Told q line b
 
 abbrev pub TellMeWhy : Type 0
 TellMeWhy =
-    (q : asked.Question) (line before after : List ℕ) (r : Reading) → ReadDone q line before after r → shapeOf q .values ≤ length before
+    (q : asked.Question) (line before after : List ℕ) (r : Reading) → ReadDone q line before after r → min (shapeOf q .values) 32 ≤ length before
     → (reason : Reason) → Returns (reasonOf q line) reason → TrueOf q line r reason

@@ -85,7 +85,8 @@ atEnds line =
 
 -- ---- 7 ECHO
 
--- what an answer repeats: the first byte, then of HELLOALL 00 and of any other the register, then of a write the value
+-- what an answer repeats: the first byte, then of HELLOALL 00 and of any other the register, then of a write the value, low byte and high byte (which
+-- stands for every place from 3 on)
 abbrev pub askedByte : asked.Question → (i : ℕ) → ℕ
 askedByte q i = getD (shapeOf q .first ∷ byForm (q .kind) 0 (q .reg) (q .reg) ∷ q .value % 256 ∷ []) i (q .value / 256)
 
