@@ -2,8 +2,9 @@
  * host_reasons.c: bmc_explain on right, damaged and random lines of any length.
  *
  * Where the document alone settles the reason (a turned bit, a field out of its
- * bounds, a line that is too long) it is held against that as well; and on every
- * line that bmc_read can be lent, number, place and byte are bmc_read's.
+ * bounds, a line of another length) it is held against that as well. Every line
+ * but those of try_lengths goes to bmc_read too: the number is bmc_read's, and so
+ * are the place of CHARACTER and MANCHESTER and the byte of CHECK and COUNT.
  */
 #include "host.h"
 
@@ -99,7 +100,8 @@ static void try_field(struct reply *r, struct s_question q, unsigned field, unsi
         must(BMC_NUMBER(why) != BMC_QUESTION, "a good question was turned away");
 }
 
-/* Each field through all that it can hold, the others good. */
+/* The figure in each field that row 1 speaks of, one field at a time, the others
+ * good. As a kind it is tried where it is a bad one: the good ones are 'kind'. */
 static void try_fields(struct reply *r, unsigned kind, unsigned figure)
 {
     struct s_question q = any_question(kind), was = q;

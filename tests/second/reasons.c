@@ -1,9 +1,11 @@
 /*
  * reasons.c: why a line was turned away, where, and what would have passed.
  *
- * Written from document 02, M-101, and document 01, 'Turned away', rows 1 and
- * 3 to 11. The row is the reader's, with room for every value; what is left is
- * to find where its check fails first.
+ * Written from document 02, M-101, document 01, 'Turned away', rows 1 and 3 to
+ * 11, and docs/DECISIONS.md: where a row is found that has no place in 01, what
+ * is asked of a question's field, and what 'the one thing' is held to. The row is
+ * the reader's, with room for every value; what is left is to find where its
+ * check fails first.
  */
 #include "reasons.h"
 

@@ -1,4 +1,8 @@
-/* reasons.h: why a line was turned away (02, M-101). */
+/*
+ * reasons.h: why a line was turned away (02, M-101). Where a row is found that has
+ * no place in 01, and in which unit it is told, stands in docs/DECISIONS.md:
+ * 'Where is a row found that has no place?' and its neighbours.
+ */
 #ifndef SECOND_REASONS_H
 #define SECOND_REASONS_H
 

@@ -3,7 +3,8 @@
  * what alone would have passed.
  *
  * A right answer is damaged at a place that is known, so that what is due is
- * known too. Then, of answers damaged anyhow, every byte, word, length or field
+ * known too. Then, of answers damaged anyhow, every byte, every word of twelve
+ * bits, every length up to past the longest answer's or every figure of a field
  * is put where the reason is: exactly the one right thing passes, or several.
  */
 #include "checks.h"
@@ -256,7 +257,7 @@ static struct answer with(struct answer a, struct s_reason was, unsigned thing)
 static void try_all(const struct answer *a)
 {
     struct s_reason was = tell(a);
-    unsigned passing = 0, most = was.how == LINE ? 2 * MOST : was.how == WORD ? 4096 : 256;
+    unsigned passing = 0, most = was.how == LINE ? 2 * MOST + 2 : was.how == WORD ? 4096 : 256;
     if (was.number == 0)
         return;
     for (unsigned thing = 0; thing < most; thing++) {
@@ -265,7 +266,7 @@ static void try_all(const struct answer *a)
         passing += (unsigned)passed;
         check(!was.one || passed == (thing == was.right), "the right thing, and no other");
     }
-    check(was.one ? passing == 1 || was.right >= most : passing >= 2, "how many pass");
+    check(was.one ? passing == 1 : passing >= 2, "how many pass");
 }
 
 /* Any damage, at every level. */

@@ -4,8 +4,9 @@
  * Reads from standard input one byte, the question's size, which is 8; the
  * question: kind, n, alive, register, value low, value high, device, seed; and
  * the line. Prints 'accepted', or the reason in three or four lines; 'R 14' for
- * another size, less than a question or too many bytes (document 02, M-101). See
- * second.h.
+ * another size, less than a question or too many bytes. Document 02, M-101, asks
+ * for the program and gives no form: that stands in docs/DECISIONS.md, 'What does
+ * `explain` read and print?'. See second.h.
  */
 #include "standard.h"
 

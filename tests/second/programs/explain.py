@@ -1,6 +1,8 @@
-"""What the explaining programs are compared on: inputs of every size and cut; each example of examples/reasons; every turned bit of a short answer; every
-field of a question spoiled; lines of every odd length; and right answers damaged at random, in their words, in their bytes under a right PEC or a wrong
-one, in their length and in their question. What is printed must have the form that document 02 gives it."""
+"""What the explaining programs are compared on: each entry of examples/reasons; a short input cut at every byte, with another size byte, and with every
+single bit of its line turned; every field of a question spoiled, for every kind; lines of every odd length up to 283 bytes, where the longest answer has
+280; inputs about the most, 65,536 bytes; 2,000 right answers damaged at random, in their words, in their bytes under a right PEC or a wrong one, in their
+length and in their question; and 500 lines of random words, as long as the answer that is due. What is printed must have the form that docs/DECISIONS.md
+gives it ('What does `explain` read and print?'), and be `R 14` exactly where the input is no question with a line; document 02 gives no form."""
 import re
 
 from certify import TREE  # and with it job is found
@@ -82,16 +84,36 @@ def damaged(chance):
     return bytes(out) + chance.randbytes(chance.random() < 0.05)
 
 
-def spoiled_fields(asked):
-    """Each field of a question through the values about its bounds, for every kind; two of them at once too."""
+def random_line(chance):
+    """Of the length that is due: words of any bits, any characters, or any that stand for a nibble; its ends are such words too, or right."""
+    n, alive = chance.randint(1, 32), chance.randrange(2)
+    ask = any_ask(chance, n)
+    any_word = chance.choice((lambda: chance.randrange(65536), lambda: job.character(chance.randrange(256)), lambda: chance.choice(job.NIBBLES)))
+    words = [any_word() for _ in job.line_of(right(chance, ask, n, alive))]
+    if chance.random() < 0.5:
+        words[0], words[-1] = job.PREAMBLE, job.STOP
+    return job.asked_of(ask, words, n, alive)
+
+
+# By where a field stands in the input. Row 1 speaks of kind, n, alive and device: the values about their bounds.
+BOUNDED = ((1, (5, 6, 128, 255)), (2, (0, 1, 2, 32, 33, 255)), (3, (0, 1, 2, 255)), (7, (0, 1, 2, 3, 31, 32, 255)))
+# Register, value low, value high and seed may be any: answers echo the register, those of writes the value too, and the alive byte follows from the seed.
+UNBOUNDED = tuple((field, (0, 1, 127, 255)) for field in (4, 5, 6, 8))
+
+
+def spoiled_fields(chance):
+    """A right answer of every kind, with one field of its question another; and with a bad or the smallest n besides, where row 1 speaks of the field."""
     for kind in range(5):
-        for field, values in ((1, (5, 6, 128, 255)), (2, (0, 1, 2, 32, 33, 255)), (3, (0, 1, 2, 255)), (7, (0, 1, 2, 3, 31, 32, 255))):
+        ask = job.asked(kind, register=0x12, value=0x3456, device=int(kind in (job.WRITEDEVICE, job.READDEVICE)), seed=0x78)
+        asked = job.asked_of(ask, job.line_of(right(chance, ask, 2, 1)), 2, 1)
+        for field, values in BOUNDED + UNBOUNDED:
             for value in values:
                 out = bytearray(asked)
-                out[1], out[field] = kind, value
+                out[field] = value
                 yield bytes(out)
-                out[2] = 1 if field == 7 else 0
-                yield bytes(out)
+                if (field, values) in BOUNDED:
+                    out[2] = 1 if field == 7 else 0
+                    yield bytes(out)
 
 
 def inputs(chance):
@@ -106,9 +128,9 @@ def inputs(chance):
     for place in range(9, len(hello)):
         for bit in range(8):
             yield hello[:place] + bytes([hello[place] ^ 1 << bit]) + hello[place + 1:]
-    yield from spoiled_fields(asked)
-    yield from (asked[:9] + chance.randbytes(size) for size in (1, 3, 35, 37, 277, 279, 281, 283, 4001))
+    yield from spoiled_fields(chance)
+    yield from (asked[:9] + chance.randbytes(size) for size in (*range(1, 284, 2), 4001))
     for front in (asked[:9], hello[:9], b'\x08\x05' + asked[2:9]):
         yield from (front + bytes(size - 9) for size in (65535, 65536, 65537, 70000))
-    for _ in range(2000):
-        yield damaged(chance)
+    yield from (damaged(chance) for _ in range(2000))
+    yield from (random_line(chance) for _ in range(500))
