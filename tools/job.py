@@ -20,7 +20,7 @@ from collections import namedtuple
 USAGE = """\
 usage: job write < plan.txt > plan.bmc          words to a job file
        job show < plan.bmc                      a job file to words
-       job why < plan.bmc                       why each entry was turned away that was
+       job why < plan.bmc                       for each entry that was turned away, why
        job ask 3 < plan.bmc | ./run explain     the same of entry 3 alone, turned away
                                                 or not; entries count from 1
 
@@ -87,6 +87,8 @@ PLACES = {1: dict(kind=0, register=1, value=2, device=4, seed=5, words=6),
 # What explain takes before the words: the question's size, then the question in the
 # order of the C calls: kind, n, alive, register, value, device, seed.
 ASKED = struct.Struct('<BBBBBHBB')
+# What explain prints of an accepted line, and how it begins for any other.
+ACCEPTED, TURNED_AWAY = b'accepted\n', b'turned away: '
 
 class Wrong(Exception):
     """Where something is wrong, what it is, and what would be right."""
@@ -435,17 +437,26 @@ def program():
         raise NoProgram
     return built.stdout.split(b'\0')[:-1]
 
+def explained(words_that_run, data, i):
+    """What explain prints of entry i; whatever is no explanation is its failure."""
+    done = subprocess.run(words_that_run, input=data, stdout=subprocess.PIPE, check=False)
+    if done.returncode != 0:
+        raise NoProgram(f'entry {i}: explain ended with status {done.returncode}')
+    told = done.stdout
+    if told != ACCEPTED and not (told.startswith(TURNED_AWAY) and told.endswith(b'\n')):
+        printed = quote(told.decode('latin-1'))
+        raise NoProgram(f'entry {i}: explain failed: it printed {printed}, which is neither '
+                        "'accepted' nor lines that begin with 'turned away: '")
+    return told
+
 def why(data):
     """What explain says of each entry that was turned away."""
     n, alive, _, entries = opened(data)
     words_that_run, out = program() if entries else [], b''
     for i, (ask, words) in enumerate(entries, 1):
-        told = subprocess.run(words_that_run, input=asked_of(ask, words, n, alive),
-                              stdout=subprocess.PIPE, check=False)
-        if told.returncode != 0:
-            raise NoProgram(f'explain ended with status {told.returncode}')
-        if told.stdout != b'accepted\n':
-            out += b'entry %d\n' % i + re.sub(rb'(?m)^(?=.)', b'  ', told.stdout)
+        told = explained(words_that_run, asked_of(ask, words, n, alive), i)
+        if told != ACCEPTED:
+            out += b'entry %d\n' % i + re.sub(rb'(?m)^(?=.)', b'  ', told)
     return out, ''
 
 # The program. It reads and writes by descriptor: no buffer is left that could
