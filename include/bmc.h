@@ -13,8 +13,9 @@
  * WORDS AND BYTES. A word of a line, a register's value and a register of the
  * twin's memory are two bytes each, low byte first, at any alignment. Lengths
  * count bytes, but for bmc_cells' outputs (see there); places count words from
- * 0. An output of an odd number of bytes has room for the whole words in it: its
- * last byte counts for no room and stays as it is.
+ * 0, but for those of bmc_explain (see BMC_WHY_HOW). An output of an odd number
+ * of bytes has room for the whole words in it: its last byte counts for no room
+ * and stays as it is.
  *
  * REFUSALS. Every call that can refuse carries a number in the lowest byte of
  * its result: 0 when it was accepted, else the number of the first check that
