@@ -37,7 +37,7 @@
  *   bmc_cells                                                  500 bytes
  *   bmc_pec                                                   1500 bytes
  *   bmc_read, bmc_part                                        2400 bytes
- *   bmc_explain                                               3000 bytes
+ *   bmc_explain                                               2500 bytes
  *   bmc_twin_power_on, bmc_twin_step, bmc_twin_run            3000 bytes
  *   bmc_certificate                                          10700 bytes
  * Beside it stands the memory that is lent: a twin of n devices has 512 * n
@@ -45,7 +45,7 @@
  * and the twin of a long chain, are for processors with that much memory; the
  * others ask for a line, 280 bytes, and its values, 64.
  *
- * CODE. All calls together are 14 to 19 KB; the reader, the writer and the cells 7
+ * CODE. All calls together are 16 to 22 KB; the reader, the writer and the cells 7
  * to 10. A program that is linked with --gc-sections takes in what it calls.
  *
  * WHAT THE CALLER OWES, in every call:

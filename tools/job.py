@@ -439,7 +439,10 @@ def program():
 
 def explained(words_that_run, data, i):
     """What explain prints of entry i; whatever is no explanation is its failure."""
-    done = subprocess.run(words_that_run, input=data, stdout=subprocess.PIPE, check=False)
+    try:
+        done = subprocess.run(words_that_run, input=data, stdout=subprocess.PIPE, check=False)
+    except OSError as error:
+        raise NoProgram(f'explain could not be started: {error.strerror}') from None
     if done.returncode != 0:
         raise NoProgram(f'entry {i}: explain ended with status {done.returncode}')
     told = done.stdout
