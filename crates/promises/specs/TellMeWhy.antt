@@ -60,8 +60,8 @@ spotAt Alive i = Byte i
 spotAt (Check byte) i = Byte i
 spotAt (Count byte) i = Byte i
 
--- what a row's check asks of a thing x that stands there, everything else as it is; where it does not look, nothing (ROOM is never given: there is room;
--- a kind above 4 breaks its own clause, so that what the others ask of it plays no part)
+-- what a row's check asks of a thing x that stands there, everything else as it is: no line looks at what stands there itself. Where the row does not
+-- look, it asks nothing. (ROOM is never given: there is room. A kind above 4 breaks its own clause, so that what the other fields ask plays no part.)
 abbrev pub Asks : asked.Question → (line : List ℕ) → Refusal → (i x : ℕ) → Type 0
 Asks q line Question zero x = x ≤ 4
 Asks q line Question (suc zero) x = x ≤ 1
