@@ -9,14 +9,14 @@ use borrow.Author.Tests.{eqb-true, leb-true}
 use Rattle.ground.proofs.Test.{and_left, and_right}
 use Rattle.lines.specs.Line.{bytes_of}
 use Rattle.questions.specs.Shape.{shape_of}
-use Rattle.questions.specs.Bytes.{answerBytes}
+use Rattle.questions.specs.Bytes.{answer_bytes}
 use Rattle.questions.specs.declared.question.Question.{Question}
-use Rattle.questions.proofs.ByKind.{of-hello}
-use Rattle.questions.proofs.Good.{hello-shape}
-use Rattle.contents.specs.Rows.{byteIn}
-use Rattle.contents.proofs.RowLaws.{hello-count}
+use Rattle.questions.proofs.ByKind.{of_hello}
+use Rattle.questions.proofs.Good.{hello_shape}
+use Rattle.contents.specs.Rows.{byte_in}
+use Rattle.contents.proofs.RowLaws.{hello_count}
 use Rattle.judging.proofs.Accepted.{Taken}
-use Rattle.acceptance.proofs.AcceptedBytes.{length-own, first-is, rest-is}
+use Rattle.acceptance.proofs.AcceptedBytes.{length_own, first_is, rest_is}
 
 all_three : (l : List ℕ) → length l ≡ 3 → l ≡ get_or l 0 0 ∷ get_or l 1 0 ∷ get_or l 2 0 ∷ []
 all_three [] h = absurd (omega arith)
@@ -26,16 +26,16 @@ all_three (a ∷ b ∷ c ∷ []) h = refl
 all_three (a ∷ b ∷ c ∷ d ∷ l) h = absurd (omega arith)
 
 module _ (q : Question) (line : List ℕ) (room : ℕ) (t : Taken q line room) where
-  pub hello-bytes : q.kind ≡ 0 → bytes_of line ≡ answerBytes q (byteIn (bytes_of line) 2 ∷ []) 0
-  unfolding answerBytes
-  hello-bytes e =
-      let words : (shape_of q).words ≡ 2 * 3 + 2 = ap (λ s. s.words) (hello-shape q e) in
-      let second : byteIn (bytes_of line) 1 ≡ 0 = eqb-true (byteIn (bytes_of line) 1) 0 (sym (of-hello q.kind _ _ _ e) ∙ rest-is q line room t) in
-      all_three (bytes_of line) (length-own q line room t 3 words)
-      ∙ ap₂ (λ (x y : ℕ). x ∷ y ∷ byteIn (bytes_of line) 2 ∷ []) (first-is q line room t) second ∙ sym (of-hello q.kind _ _ _ e)
+  pub hello_bytes : q.kind ≡ 0 → bytes_of line ≡ answer_bytes q (byte_in (bytes_of line) 2 ∷ []) 0
+  unfolding answer_bytes
+  hello_bytes e =
+      let words : (shape_of q).words ≡ 2 * 3 + 2 = ap (λ s. s.words) (hello_shape q e) in
+      let second : byte_in (bytes_of line) 1 ≡ 0 = eqb-true (byte_in (bytes_of line) 1) 0 (sym (of_hello q.kind _ _ _ e) ∙ rest_is q line room t) in
+      all_three (bytes_of line) (length_own q line room t 3 words)
+      ∙ ap₂ (λ (x y : ℕ). x ∷ y ∷ byte_in (bytes_of line) 2 ∷ []) (first_is q line room t) second ∙ sym (of_hello q.kind _ _ _ e)
 
-  pub right-count : q.kind ≡ 0 → (1 ≤ byteIn (bytes_of line) 2) × (byteIn (bytes_of line) 2 ≤ 32)
-  right-count e =
-      let b = byteIn (bytes_of line) 2 in
-      let right = hello-count q (bytes_of line) e ∙ t.count in
+  pub right_count : q.kind ≡ 0 → (1 ≤ byte_in (bytes_of line) 2) × (byte_in (bytes_of line) 2 ≤ 32)
+  right_count e =
+      let b = byte_in (bytes_of line) 2 in
+      let right = hello_count q (bytes_of line) e ∙ t.count in
       (leb-true 1 b (and_left _ _ right), leb-true b 32 (and_right (leb 1 b) _ right))

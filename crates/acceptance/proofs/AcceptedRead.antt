@@ -7,21 +7,21 @@ use lib.ListN.{length, get_or, take, drop, length-append, length-drop}
 use lib.Seq.{take-suc, get_or-drop}
 use borrow.Author.Tests.{eqb-true}
 use Rattle.lines.specs.Line.{bytes_of}
-use Rattle.lines.proofs.Line.{bytes-bytes}
+use Rattle.lines.proofs.Line.{bytes_bytes}
 use Rattle.questions.specs.Shape.{shape_of}
-use Rattle.questions.specs.Bytes.{onWire, readCovered, answerBytes}
+use Rattle.questions.specs.Bytes.{on_wire, read_covered, answer_bytes}
 use Rattle.questions.specs.declared.question.Question.{Question}
-use Rattle.questions.proofs.ByKind.{of-read}
-use Rattle.questions.proofs.Good.{read-shape}
-use Rattle.questions.proofs.Wire.{length-wire}
-use Rattle.reader.specs.Read.{valuesOn}
-use Rattle.reader.proofs.Values.{values-number}
+use Rattle.questions.proofs.ByKind.{of_read}
+use Rattle.questions.proofs.Good.{read_shape}
+use Rattle.questions.proofs.Wire.{length_wire}
+use Rattle.reader.specs.Read.{values_on}
+use Rattle.reader.proofs.Values.{values_number}
 use Rattle.judging.proofs.Accepted.{Taken}
-use Rattle.contents.specs.Rows.{byteIn}
-use Rattle.contents.proofs.RowLaws.{read-check}
+use Rattle.contents.specs.Rows.{byte_in}
+use Rattle.contents.proofs.RowLaws.{read_check}
 use Rattle.acceptance.specs.Answer.{AllValues}
-use Rattle.acceptance.proofs.Wire.{wire-read, values-registers}
-use Rattle.acceptance.proofs.AcceptedBytes.{length-own, first-is, rest-is, closed}
+use Rattle.acceptance.proofs.Wire.{wire_read, values_registers}
+use Rattle.acceptance.proofs.AcceptedBytes.{length_own, first_is, rest_is, closed}
 
 take_more : (l : List ℕ) (k : ℕ) → 2 + k ≤ length l → take (2 + k) l ≡ get_or l 0 0 ∷ get_or l 1 0 ∷ take k (drop 2 l)
 take_more [] k h = absurd (omega arith)
@@ -38,42 +38,42 @@ module _ (q : Question) (line : List ℕ) (room : ℕ) (t : Taken q line room) w
 
     words : (shape_of q).words ≡ 2 * count + 2
     unfolding count
-    words = let s = read-shape q lo in omega (arith, s.words, s.covered)
+    words = let s = read_shape q lo in omega (arith, s.words, s.covered)
 
     many : length (bytes_of line) ≡ 2 * m + 4 + q.alive
     unfolding m count
-    many = omega (arith, length-own q line room t count words, (read-shape q lo).covered)
+    many = omega (arith, length_own q line room t count words, (read_shape q lo).covered)
 
-    on-wire : take (2 * m) (drop 2 (bytes_of line)) ≡ onWire (valuesOn line m)
-    on-wire = wire-read (bytes_of line) (bytes-bytes line) m (omega (arith, many))
+    on_wire_lem : take (2 * m) (drop 2 (bytes_of line)) ≡ on_wire (values_on line m)
+    on_wire_lem = wire_read (bytes_of line) (bytes_bytes line) m (omega (arith, many))
 
-    number : length (valuesOn line m) ≡ m
-    number = values-number (bytes_of line) m (omega (arith, many))
+    number : length (values_on line m) ≡ m
+    number = values_number (bytes_of line) m (omega (arith, many))
 
-    read-front : take (shape_of q).covered (bytes_of line) ≡ readCovered q (valuesOn line m) 0
+    read_front : take (shape_of q).covered (bytes_of line) ≡ read_covered q (values_on line m) 0
     unfolding m
-    read-front =
+    read_front =
         let size = many in
-        let covered : (shape_of q).covered ≡ 2 + suc (2 * m) = omega (arith, (read-shape q lo).covered) in
+        let covered : (shape_of q).covered ≡ 2 + suc (2 * m) = omega (arith, (read_shape q lo).covered) in
         let within : 2 * m < length (drop 2 (bytes_of line)) = omega (arith, length-drop 2 (bytes_of line)) in
         let check : get_or (drop 2 (bytes_of line)) (2 * m) 0 ≡ 0 =
-        get_or-drop 2 (bytes_of line) (2 * m) 0 ∙ read-check q (bytes_of line) lo ∙ t.check in
+        get_or-drop 2 (bytes_of line) (2 * m) 0 ∙ read_check q (bytes_of line) lo ∙ t.check in
         ap (λ (k : ℕ). take k (bytes_of line)) covered ∙ take_more (bytes_of line) (suc (2 * m)) (omega arith)
-        ∙ ap₂ (λ (x y : ℕ). x ∷ y ∷ take (suc (2 * m)) (drop 2 (bytes_of line))) (first-is q line room t)
-        (eqb-true (byteIn (bytes_of line) 1) q.reg (sym (of-read q.kind _ _ _ lo) ∙ rest-is q line room t))
+        ∙ ap₂ (λ (x y : ℕ). x ∷ y ∷ take (suc (2 * m)) (drop 2 (bytes_of line))) (first_is q line room t)
+        (eqb-true (byte_in (bytes_of line) 1) q.reg (sym (of_read q.kind _ _ _ lo) ∙ rest_is q line room t))
         ∙ ap (λ (l : List ℕ). (shape_of q).first ∷ q.reg ∷ l)
-        (take-suc (drop 2 (bytes_of line)) (2 * m) 0 within ∙ ap₂ (λ (x : List ℕ) (y : ℕ). x ++ (y ∷ [])) on-wire check)
+        (take-suc (drop 2 (bytes_of line)) (2 * m) 0 within ∙ ap₂ (λ (x : List ℕ) (y : ℕ). x ++ (y ∷ [])) on_wire_lem check)
 
-    length-read : length (readCovered q (valuesOn line m) 0) ≡ (shape_of q).covered
+    length_read : length (read_covered q (values_on line m) 0) ≡ (shape_of q).covered
     unfolding m
-    length-read =
-        omega (arith, length-append (onWire (valuesOn line m)) (0 ∷ []), length-wire (valuesOn line m), number, (read-shape q lo).covered)
+    length_read =
+        omega (arith, length-append (on_wire (values_on line m)) (0 ∷ []), length_wire (values_on line m), number, (read_shape q lo).covered)
 
-    pub read-bytes : bytes_of line ≡ answerBytes q (valuesOn line (shape_of q).values) 0
-    unfolding answerBytes m count
-    read-bytes =
-        closed q line room t (omega arith) words (readCovered q (valuesOn line m) 0) length-read read-front ∙ sym (of-read q.kind _ _ _ lo)
+    pub read_bytes : bytes_of line ≡ answer_bytes q (values_on line (shape_of q).values) 0
+    unfolding answer_bytes m count
+    read_bytes =
+        closed q line room t (omega arith) words (read_covered q (values_on line m) 0) length_read read_front ∙ sym (of_read q.kind _ _ _ lo)
 
-    pub read-values : AllValues q (valuesOn line (shape_of q).values)
+    pub read_values : AllValues q (values_on line (shape_of q).values)
     unfolding m
-    read-values = record { number = number; registers = values-registers (bytes_of line) (bytes-bytes line) m }
+    read_values = record { number = number; registers = values_registers (bytes_of line) (bytes_bytes line) m }

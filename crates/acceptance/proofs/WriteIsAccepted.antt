@@ -8,39 +8,39 @@ use lib.ListN.{length}
 use borrow.Author.Tests.{eq-eqb}
 use Rattle.remainder.specs.Turned.{Bytes}
 use Rattle.lines.specs.Line.{line_of, bytes_of}
-use Rattle.questions.specs.Question.{goodQuestion}
+use Rattle.questions.specs.Question.{good_question}
 use Rattle.questions.specs.Shape.{shape_of}
-use Rattle.questions.specs.Bytes.{lowHigh, sealed, writeCovered}
+use Rattle.questions.specs.Bytes.{low_high, sealed, write_covered}
 use Rattle.questions.specs.declared.question.Question.{Question}
-use Rattle.questions.proofs.Good.{good-first, write_shape}
-use Rattle.judging.specs.Judge.{judgeOf}
+use Rattle.questions.proofs.Good.{good_first, write_shape}
+use Rattle.judging.specs.Judge.{judge_of}
 use Rattle.readings.specs.declared.Reading.TheVariants.{Written}
-use Rattle.judging.proofs.Accepted.{Taken, taken-reads}
+use Rattle.judging.proofs.Accepted.{Taken, taken_reads}
 use Rattle.contents.proofs.RowLaws
 use Rattle.acceptance.specs.Answer.{Sendable}
-use Rattle.acceptance.proofs.Wire.{bytes-cons, two_bytes}
+use Rattle.acceptance.proofs.Wire.{bytes_cons, two_bytes}
 use Rattle.acceptance.proofs.SealedIsAccepted.{bytes, takes}
 
-module _ (q : Question) (good : goodQuestion q ≡ true) (s : Sendable q) (room : ℕ) (enough : (shape_of q).values ≤ room) where
+module _ (q : Question) (good : good_question q ≡ true) (s : Sendable q) (room : ℕ) (enough : (shape_of q).values ≤ room) where
   module _ (lo : 1 ≤ q.kind) (hi : q.kind ≤ 2) where
-    write-are-bytes : Bytes (writeCovered q)
-    write-are-bytes =
-        bytes-cons (shape_of q).first (q.reg ∷ lowHigh q.value) (good-first q good)
-        (bytes-cons q.reg (lowHigh q.value) s.reg (two_bytes q.value s.value))
+    write_are_bytes : Bytes (write_covered q)
+    write_are_bytes =
+        bytes_cons (shape_of q).first (q.reg ∷ low_high q.value) (good_first q good)
+        (bytes_cons q.reg (low_high q.value) s.reg (two_bytes q.value s.value))
 
-    unfoldable pub write-line : List ℕ
-    write-line = line_of (sealed q (shape_of q).acting (writeCovered q))
+    unfoldable pub write_line : List ℕ
+    write_line = line_of (sealed q (shape_of q).acting (write_covered q))
 
-    write-takes : Taken q write-line room
-    unfolding write-line bytes sealed
-    write-takes =
+    write_takes : Taken q write_line room
+    unfolding write_line bytes sealed
+    write_takes =
         let shape = write_shape q lo hi in
-        let len : length (writeCovered q) ≡ (shape_of q).covered = sym shape.covered in
+        let len : length (write_covered q) ≡ (shape_of q).covered = sym shape.covered in
         let words : (shape_of q).words ≡ 2 * ((shape_of q).covered + 1 + q.alive) + 2 = omega (arith, shape.words, shape.covered) in
-        takes q good s room enough lo (writeCovered q) write-are-bytes len words
-        (sym (RowLaws.write-echo q (sealed q (shape_of q).acting (writeCovered q)) refl lo hi refl)
+        takes q good s room enough lo (write_covered q) write_are_bytes len words
+        (sym (RowLaws.write_echo q (sealed q (shape_of q).acting (write_covered q)) refl lo hi refl)
         ∙ ap₂ ◌&&◌ (eq-eqb (q.value % 256) (q.value % 256) refl) (eq-eqb (q.value / 256) (q.value / 256) refl))
-        (sym (RowLaws.no-check q (sealed q (shape_of q).acting (writeCovered q)) hi))
+        (sym (RowLaws.no_check q (sealed q (shape_of q).acting (write_covered q)) hi))
 
-    pub write-reads : judgeOf q write-line room ≡ Written
-    write-reads = taken-reads q write-line room write-takes ∙ sym (RowLaws.write-taken q (bytes_of write-line) lo hi)
+    pub write_reads : judge_of q write_line room ≡ Written
+    write_reads = taken_reads q write_line room write_takes ∙ sym (RowLaws.write_taken q (bytes_of write_line) lo hi)

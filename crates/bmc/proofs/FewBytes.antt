@@ -3,13 +3,13 @@ use mathlib.Core.Path.{◌≡◌, sym}
 use mathlib.Core.List.{List}
 use Prim.Native.Nat.{◌≤◌, ℕ}
 use native.Mathlib.Omega.{arith}
-use Rattle.certificate.specs.Certificate.{certifiedOf, mostText}
+use Rattle.certificate.specs.Certificate.{certified_of, most_text}
 use Rattle.certificate.specs.declared.Certified.{Certified}
 use Rattle.certificate.specs.declared.Certified.TheVariants.{Bytes, File, Room}
 use Rattle.certificate.proofs.Longest.{written}
-use Rattle.bmc.specs.Exports.{bytesWritten}
+use Rattle.bmc.specs.Exports.{bytes_written}
 
-pub few_bytes : (file text : List ℕ) (r : Certified) → r ≡ certifiedOf file text → bytesWritten r ≤ mostText
+pub few_bytes : (file text : List ℕ) (r : Certified) → r ≡ certified_of file text → bytes_written r ≤ most_text
 few_bytes file text (Bytes n) says = (written file text n (sym says)).most
 few_bytes file text File says = omega arith
 few_bytes file text Room says = omega arith

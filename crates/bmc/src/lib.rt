@@ -1,17 +1,17 @@
 // The C side (document 01, "The C side"): what the adapters' firmware calls, over numbers and byte slices. Each function hands its arguments to
 // a proved crate below and keeps that crate's contract; include/bmc.h declares them, and docs/C_INTERFACE.md has the packing.
 ghost use Rattle.std.specs.Prelude.{◌≡◌, ◌≤◌};
-ghost use Rattle.pec.specs.Pec.{pecOf};
+ghost use Rattle.pec.specs.Pec.{pec_of};
 ghost use Rattle.questions.specs.Question.{asking};
 ghost use Rattle.c_commands.specs.CommandBytes.{CommandBytesDone};
 ghost use Rattle.c_reader.specs.ReadBytes.{ReadBytesDone};
-ghost use Rattle.c_parts.specs.PartBytes.{partIn};
-ghost use Rattle.c_reasons.specs.Explain.{packedOn};
+ghost use Rattle.c_parts.specs.PartBytes.{part_in};
+ghost use Rattle.c_reasons.specs.Explain.{packed_on};
 ghost use Rattle.c_cells.specs.CellBytes.{CellDone};
 ghost use Rattle.c_cells.specs.CellsBytes.{CellsDone};
 ghost use Rattle.c_twin.specs.TwinBytes.{PowerBytesDone, StepBytesDone, RunBytesDone};
-ghost use Rattle.certificate.specs.Certificate.{mostText};
-ghost use Rattle.bmc.specs.Exports.{bytesWritten, packedCertified, CertificateBytesDone};
+ghost use Rattle.certificate.specs.Certificate.{most_text};
+ghost use Rattle.bmc.specs.Exports.{bytes_written, packed_certified, CertificateBytesDone};
 
 use c_cells::{cell_into, cells_into};
 use c_commands::command_bytes;
@@ -105,7 +105,7 @@ pub extern "C" fn bmc_part(
     named: u8,
     line: &[u8],
 ) -> u32
-    ensures { result ≡ partIn (asking kind n alive reg value device seed) named line.now }
+    ensures { result ≡ part_in (asking kind n alive reg value device seed) named line.now }
 {
     let put = ask(kind, n, alive, reg, value, device, seed);
     part_bytes(put, named, line)
@@ -151,7 +151,7 @@ pub extern "C" fn bmc_explain(
     seed: u8,
     line: &[u8],
 ) -> u64
-    ensures { result ≡ packedOn (asking kind n alive reg value device seed) line.now }
+    ensures { result ≡ packed_on (asking kind n alive reg value device seed) line.now }
 {
     let answered = ask(kind, n, alive, reg, value, device, seed);
     explain_packed(answered, line)
@@ -160,14 +160,14 @@ pub extern "C" fn bmc_explain(
 // The PEC of some bytes, for firmware that frames its own.
 #[unsafe(no_mangle)]
 pub extern "C" fn bmc_pec(bytes: &[u8]) -> u32
-    ensures { result ≡ pecOf bytes.now }
+    ensures { result ≡ pec_of bytes.now }
 {
     pec(bytes) as u32
 }
 
 fn packed_certified(certified: Certified) -> u32
-    requires { bytesWritten certified ≤ mostText }
-    ensures { result ≡ packedCertified certified }
+    requires { bytes_written certified ≤ most_text }
+    ensures { result ≡ packed_certified certified }
 {
     match certified {
         Certified::Bytes(n) => 256 * n as u32,

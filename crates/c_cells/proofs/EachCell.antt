@@ -13,31 +13,31 @@ use lib.Ieee.{Float}
 use lib.ListN.{length, get_or}
 use borrow.Author.Tests.{eqb-true, eqb-false}
 use Rattle.ground.proofs.Test.{below_or_not}
-use Rattle.lines.specs.Write.{leftBy}
-use Rattle.lines.proofs.LeftBy.{left-written}
-use Rattle.packing.specs.Words.{words_of, wordAt}
-use Rattle.packing.proofs.Back.{length-words, word_of}
-use Rattle.cells.specs.Cell.{cell_of, cellsFrom, cells_of}
+use Rattle.lines.specs.Write.{left_by}
+use Rattle.lines.proofs.LeftBy.{left_written}
+use Rattle.packing.specs.Words.{words_of, word_at}
+use Rattle.packing.proofs.Back.{length_words, word_of}
+use Rattle.cells.specs.Cell.{cell_of, cells_from, cells_of}
 use Rattle.cells.specs.declared.Range.{Range}
 use Rattle.cells.specs.declared.Range.TheVariants.{Unipolar, Bipolar}
 use Rattle.cells.specs.declared.Register.{Register}
 use Rattle.cells.specs.declared.Cell.{Cell}
 use Rattle.cells.specs.declared.Cell.TheVariants.{NotMeasured}
-use Rattle.c_cells.specs.CellBytes.{microvoltsOr, voltsOr, CellGiven, byRange, CellDone}
-use Rattle.c_cells.specs.CellsBytes.{register, registersOf, roomNumber, cellsNumber, cellsRead, byCell, packedOr, CellsGiven, CellsDone}
-use Rattle.c_cells.proofs.Named.{is-unipolar, is-bipolar, is-neither, unipolar-done, bipolar-done}
-use Rattle.c_cells.proofs.Numbered.{short-microvolts, short-volts, short-answers, other_length}
+use Rattle.c_cells.specs.CellBytes.{microvolts_or, volts_or, CellGiven, by_range, CellDone}
+use Rattle.c_cells.specs.CellsBytes.{register, registers_of, room_number, cells_number, cells_read, by_cell, packed_or, CellsGiven, CellsDone}
+use Rattle.c_cells.proofs.Named.{is_unipolar, is_bipolar, is_neither, unipolar_done, bipolar_done}
+use Rattle.c_cells.proofs.Numbered.{short_microvolts, short_volts, short_answers, other_length}
 
 -- ---- the k-th of a list
 
 -- a cell for each register
-pub cells-number : (range : Range) (mask c : ℕ) (registers : List Register) → length (cellsFrom range mask c registers) ≡ length registers
-cells-number range mask c [] = refl
-cells-number range mask c (register ∷ registers) = ap suc (cells-number range mask (c + 1) registers)
+pub cells_number_lem : (range : Range) (mask c : ℕ) (registers : List Register) → length (cells_from range mask c registers) ≡ length registers
+cells_number_lem range mask c [] = refl
+cells_number_lem range mask c (register ∷ registers) = ap suc (cells_number_lem range mask (c + 1) registers)
 
 -- and by it
 pub cell_at : (range : Range) (mask c : ℕ) (registers : List Register) (k : ℕ) (none : Cell) (nothing : Register) → k < length registers
-    → get_or (cellsFrom range mask c registers) k none ≡ cell_of range mask (c + k) (get_or registers k nothing).0
+    → get_or (cells_from range mask c registers) k none ≡ cell_of range mask (c + k) (get_or registers k nothing).0
 cell_at range mask c [] k none nothing h = absurd (not-suc-le-zero h)
 cell_at range mask c (register ∷ registers) zero none nothing h =
     let same : c ≡ c + 0 = omega arith in ap (λ (x : ℕ). cell_of range mask x register.0) same
@@ -45,22 +45,22 @@ cell_at range mask c (register ∷ registers) (suc k) none nothing h =
     let same : c + 1 + k ≡ c + suc k = omega arith in
     cell_at range mask (c + 1) registers k none nothing (le_of_suc-le-suc h) ∙ ap (λ (x : ℕ). cell_of range mask x (get_or registers k nothing).0) same
 
-registers-number : (words : List ℕ) → length (map register words) ≡ length words
-registers-number [] = refl
-registers-number (w ∷ words) = ap suc (registers-number words)
+registers_number : (words : List ℕ) → length (map register words) ≡ length words
+registers_number [] = refl
+registers_number (w ∷ words) = ap suc (registers_number words)
 
-register-at : (words : List ℕ) (k : ℕ) (nothing : Register) → k < length words → (get_or (map register words) k nothing).0 ≡ get_or words k 0
-register-at [] k nothing h = absurd (not-suc-le-zero h)
-register-at (w ∷ words) zero nothing h = refl
-register-at (w ∷ words) (suc k) nothing h = register-at words k nothing (le_of_suc-le-suc h)
+register_at : (words : List ℕ) (k : ℕ) (nothing : Register) → k < length words → (get_or (map register words) k nothing).0 ≡ get_or words k 0
+register_at [] k nothing h = absurd (not-suc-le-zero h)
+register_at (w ∷ words) zero nothing h = refl
+register_at (w ∷ words) (suc k) nothing h = register_at words k nothing (le_of_suc-le-suc h)
 
-in-its-place : {A : Type 0} (after : Cell → A → A) (cells : List Cell) (before : List A) (k : ℕ) (none : Cell) (nothing : A)
-    → k < length cells → k < length before → get_or (byCell after cells before) k nothing ≡ after (get_or cells k none) (get_or before k nothing)
-in-its-place after [] before k none nothing h i = absurd (not-suc-le-zero h)
-in-its-place after (cell ∷ cells) [] k none nothing h i = absurd (not-suc-le-zero i)
-in-its-place after (cell ∷ cells) (b ∷ before) zero none nothing h i = refl
-in-its-place after (cell ∷ cells) (b ∷ before) (suc k) none nothing h i =
-    in-its-place after cells before k none nothing (le_of_suc-le-suc h) (le_of_suc-le-suc i)
+in_its_place : {A : Type 0} (after : Cell → A → A) (cells : List Cell) (before : List A) (k : ℕ) (none : Cell) (nothing : A)
+    → k < length cells → k < length before → get_or (by_cell after cells before) k nothing ≡ after (get_or cells k none) (get_or before k nothing)
+in_its_place after [] before k none nothing h i = absurd (not-suc-le-zero h)
+in_its_place after (cell ∷ cells) [] k none nothing h i = absurd (not-suc-le-zero i)
+in_its_place after (cell ∷ cells) (b ∷ before) zero none nothing h i = refl
+in_its_place after (cell ∷ cells) (b ∷ before) (suc k) none nothing h i =
+    in_its_place after cells before k none nothing (le_of_suc-le-suc h) (le_of_suc-le-suc i)
 
 -- ---- what number 0 says of the lengths
 
@@ -70,80 +70,80 @@ record Lent (registers : List ℕ) (m : List ℤ) (v : List Float) (a : List ℕ
   answers : 12 ≤ length a
   bytes : length registers ≡ 24
 
-module _ (registers : List ℕ) (m : List ℤ) (v : List Float) (a : List ℕ) (none : roomNumber registers m v a ≡ 0) where
+module _ (registers : List ℕ) (m : List ℤ) (v : List Float) (a : List ℕ) (none : room_number registers m v a ≡ 0) where
   lent : Lent registers m v a
   lent =
-      let whole = room (length m) (short-microvolts registers m v a) in
-      let single = room (length v) (short-volts registers m v a whole) in
-      let said = room (length a) (short-answers registers m v a whole single) in
-      record { microvolts = whole; volts = single; answers = said; bytes = by-test whole single said (eqb (length registers) 24) refl }
+      let whole = room (length m) (short_microvolts registers m v a) in
+      let single = room (length v) (short_volts registers m v a whole) in
+      let said = room (length a) (short_answers registers m v a whole single) in
+      record { microvolts = whole; volts = single; answers = said; bytes = by_test whole single said (eqb (length registers) 24) refl }
     where
-      room : (lent : ℕ) → (lent < 12 → roomNumber registers m v a ≡ 2) → 12 ≤ lent
+      room : (lent : ℕ) → (lent < 12 → room_number registers m v a ≡ 2) → 12 ≤ lent
       room lent short = ⊎_elim (λ less. absurd (omega (arith, none, short less))) (λ enough. enough) (below_or_not lent 12)
 
-      by-test : 12 ≤ length m → 12 ≤ length v → 12 ≤ length a → (all : Bool) → eqb (length registers) 24 ≡ all → length registers ≡ 24
-      by-test whole single said true e = eqb-true (length registers) 24 e
-      by-test whole single said false e =
+      by_test : 12 ≤ length m → 12 ≤ length v → 12 ≤ length a → (all : Bool) → eqb (length registers) 24 ≡ all → length registers ≡ 24
+      by_test whole single said true e = eqb-true (length registers) 24 e
+      by_test whole single said false e =
           absurd (omega (arith, none, other_length registers m v a whole single said (eqb-false (length registers) 24 e)))
 
 -- ---- each cell
 
-module _ (enabled : ℕ) (registers : List ℕ) (m m' : List ℤ) (v v' : List Float) (a a' : List ℕ) (k : ℕ) (below : k < 12) (nothing : ℤ) (no-volts : Float) where
+module _ (enabled : ℕ) (registers : List ℕ) (m m' : List ℤ) (v v' : List Float) (a a' : List ℕ) (k : ℕ) (below : k < 12) (nothing : ℤ) (no_volts : Float) where
   -- by the range that is named
-  own-given : (range : Range) (number r : ℕ) → number ≡ 0 → Lent registers m v a
-      → CellsGiven number (cells_of range enabled (registersOf registers)) m m' v v' a a' r
-      → CellGiven (cell_of range enabled (suc k) (wordAt registers k)) (get_or m k nothing) (get_or m' k nothing) (get_or v k no-volts) (get_or v' k no-volts) (get_or a' k 0)
-  unfolding cells_of registersOf
-  own-given range number r accepted enough given =
+  own_given : (range : Range) (number r : ℕ) → number ≡ 0 → Lent registers m v a
+      → CellsGiven number (cells_of range enabled (registers_of registers)) m m' v v' a a' r
+      → CellGiven (cell_of range enabled (suc k) (word_at registers k)) (get_or m k nothing) (get_or m' k nothing) (get_or v k no_volts) (get_or v' k no_volts) (get_or a' k 0)
+  unfolding cells_of registers_of
+  own_given range number r accepted enough given =
       record {
-        says = place packedOr a a' 0 (omega (arith, enough.answers)) given.answers;
-        microvolts = place microvoltsOr m m' nothing (omega (arith, enough.microvolts)) given.microvolts;
-        volts = place voltsOr v v' no-volts (omega (arith, enough.volts)) given.volts;
+        says = place packed_or a a' 0 (omega (arith, enough.answers)) given.answers;
+        microvolts = place microvolts_or m m' nothing (omega (arith, enough.microvolts)) given.microvolts;
+        volts = place volts_or v v' no_volts (omega (arith, enough.volts)) given.volts;
       }
     where
       cells : List Cell
-      cells = cellsFrom range enabled 1 (map register (words_of registers))
+      cells = cells_from range enabled 1 (map register (words_of registers))
 
       bytes : length registers ≡ 24
       bytes = enough.bytes
 
-      own : get_or cells k NotMeasured ≡ cell_of range enabled (suc k) (wordAt registers k)
+      own : get_or cells k NotMeasured ≡ cell_of range enabled (suc k) (word_at registers k)
       own =
           let one : 1 + k ≡ suc k = omega arith in
-          let words = length-words registers in
-          cell_at range enabled 1 (map register (words_of registers)) k NotMeasured (register 0) (omega (arith, below, bytes, words, registers-number (words_of registers)))
+          let words = length_words registers in
+          cell_at range enabled 1 (map register (words_of registers)) k NotMeasured (register 0) (omega (arith, below, bytes, words, registers_number (words_of registers)))
           ∙ ap₂ (cell_of range enabled) one
-          (register-at (words_of registers) k (register 0) (omega (arith, below, bytes, words)) ∙ word_of registers k (omega (arith, below, bytes)))
+          (register_at (words_of registers) k (register 0) (omega (arith, below, bytes, words)) ∙ word_of registers k (omega (arith, below, bytes)))
 
-      place : {A : Type 0} (after : Cell → A → A) (before left : List A) (none : A) → k < length before → left ≡ leftBy number (byCell after cells before) before
-          → get_or left k none ≡ after (cell_of range enabled (suc k) (wordAt registers k)) (get_or before k none)
+      place : {A : Type 0} (after : Cell → A → A) (before left : List A) (none : A) → k < length before → left ≡ left_by number (by_cell after cells before) before
+          → get_or left k none ≡ after (cell_of range enabled (suc k) (word_at registers k)) (get_or before k none)
       place after before left none there is =
-          let many = cells-number range enabled 1 (map register (words_of registers)) in
-          ap (λ l. get_or l k none) (is ∙ left-written (byCell after cells before) before number accepted)
-          ∙ in-its-place after cells before k NotMeasured none (omega (arith, below, bytes, many, length-words registers, registers-number (words_of registers))) there
+          let many = cells_number_lem range enabled 1 (map register (words_of registers)) in
+          ap (λ l. get_or l k none) (is ∙ left_written (by_cell after cells before) before number accepted)
+          ∙ in_its_place after cells before k NotMeasured none (omega (arith, below, bytes, many, length_words registers, registers_number (words_of registers))) there
           ∙ ap (λ (c : Cell). after c (get_or before k none)) own
 
   -- AN ACCEPTED CALL OF TWELVE DOES FOR EACH CELL WHAT `cell_into` DOES
-  pub own-done : (bipolar r : ℕ) → CellsDone enabled bipolar registers m m' v v' a a' r → cellsNumber bipolar registers m v a ≡ 0
-      → CellDone (suc k) enabled (wordAt registers k) bipolar (get_or m k nothing) (get_or m' k nothing) (get_or v k no-volts) (get_or v' k no-volts) (get_or a' k 0)
-  unfolding cellsNumber cellsRead
-  own-done bipolar r done accepted = by_tests (eqb bipolar 0) refl (eqb bipolar 1) refl
+  pub own_done : (bipolar r : ℕ) → CellsDone enabled bipolar registers m m' v v' a a' r → cells_number bipolar registers m v a ≡ 0
+      → CellDone (suc k) enabled (word_at registers k) bipolar (get_or m k nothing) (get_or m' k nothing) (get_or v k no_volts) (get_or v' k no_volts) (get_or a' k 0)
+  unfolding cells_number cells_read
+  own_done bipolar r done accepted = by_tests (eqb bipolar 0) refl (eqb bipolar 1) refl
     where
-      of : (range : Range) → ((A : Type 0) (named : Range → A) (none : A) → byRange bipolar named none ≡ named range)
-          → CellGiven (cell_of range enabled (suc k) (wordAt registers k)) (get_or m k nothing) (get_or m' k nothing) (get_or v k no-volts) (get_or v' k no-volts) (get_or a' k 0)
+      of : (range : Range) → ((A : Type 0) (named : Range → A) (none : A) → by_range bipolar named none ≡ named range)
+          → CellGiven (cell_of range enabled (suc k) (word_at registers k)) (get_or m k nothing) (get_or m' k nothing) (get_or v k no_volts) (get_or v' k no_volts) (get_or a' k 0)
       of range is =
-          own-given range (cellsNumber bipolar registers m v a) r accepted
-          (lent registers m v a (sym (is ℕ (λ (range : Range). roomNumber registers m v a) 1) ∙ accepted))
-          (subst (λ (cells : List Cell). CellsGiven (cellsNumber bipolar registers m v a) cells m m' v v' a a' r)
-          (is (List Cell) (λ (range : Range). cells_of range enabled (registersOf registers)) []) done)
+          own_given range (cells_number bipolar registers m v a) r accepted
+          (lent registers m v a (sym (is ℕ (λ (range : Range). room_number registers m v a) 1) ∙ accepted))
+          (subst (λ (cells : List Cell). CellsGiven (cells_number bipolar registers m v a) cells m m' v v' a a' r)
+          (is (List Cell) (λ (range : Range). cells_of range enabled (registers_of registers)) []) done)
 
       by_tests : (uni : Bool) → eqb bipolar 0 ≡ uni → (bi : Bool) → eqb bipolar 1 ≡ bi
-          → CellDone (suc k) enabled (wordAt registers k) bipolar (get_or m k nothing) (get_or m' k nothing) (get_or v k no-volts) (get_or v' k no-volts) (get_or a' k 0)
+          → CellDone (suc k) enabled (word_at registers k) bipolar (get_or m k nothing) (get_or m' k nothing) (get_or v k no_volts) (get_or v' k no_volts) (get_or a' k 0)
       by_tests true u bi b =
           let is = eqb-true bipolar 0 u in
-          unipolar-done (suc k) enabled (wordAt registers k) bipolar _ _ _ _ _ _ is refl (of Unipolar (λ A named none. is-unipolar bipolar named none is))
+          unipolar_done (suc k) enabled (word_at registers k) bipolar _ _ _ _ _ _ is refl (of Unipolar (λ A named none. is_unipolar bipolar named none is))
       by_tests false u true b =
           let is = eqb-true bipolar 1 b in
-          bipolar-done (suc k) enabled (wordAt registers k) bipolar _ _ _ _ _ _ is refl (of Bipolar (λ A named none. is-bipolar bipolar named none is))
+          bipolar_done (suc k) enabled (word_at registers k) bipolar _ _ _ _ _ _ is refl (of Bipolar (λ A named none. is_bipolar bipolar named none is))
       by_tests false u false b =
-          absurd (omega (arith, accepted, is-neither bipolar (λ (range : Range). roomNumber registers m v a) 1 (eqb-false bipolar 0 u) (eqb-false bipolar 1 b)))
+          absurd (omega (arith, accepted, is_neither bipolar (λ (range : Range). room_number registers m v a) 1 (eqb-false bipolar 0 u) (eqb-false bipolar 1 b)))

@@ -2,8 +2,8 @@
 // measured, into two lent numbers; and so for the twelve cells of one measurement.
 ghost use Rattle.std.specs.Prelude.{◌≡◌, ◌≤◌, length};
 ghost use Rattle.cells.specs.Cell.{cells_of};
-ghost use Rattle.c_cells.specs.CellBytes.{microvoltsOr, voltsOr, CellGiven, CellDone};
-ghost use Rattle.c_cells.specs.CellsBytes.{registersOf, roomNumber, packedOr, byCell, CellsGiven, CellsDone};
+ghost use Rattle.c_cells.specs.CellBytes.{microvolts_or, volts_or, CellGiven, CellDone};
+ghost use Rattle.c_cells.specs.CellsBytes.{registers_of, room_number, packed_or, by_cell, CellsGiven, CellsDone};
 
 use all_cells::read_cells;
 use cell_numbers::refusal_number;
@@ -99,7 +99,7 @@ fn cells_by(
     volts: &mut [f32],
     answers: &mut [u32],
 ) -> u32
-    ensures { CellsGiven (roomNumber registers.now microvolts.old volts.old answers.old) (cells_of range enabled (registersOf registers.now)) microvolts.old microvolts.new volts.old volts.new answers.old answers.new result }
+    ensures { CellsGiven (room_number registers.now microvolts.old volts.old answers.old) (cells_of range enabled (registers_of registers.now)) microvolts.old microvolts.new volts.old volts.new answers.old answers.new result }
 {
     if microvolts.len() < 12 {
         return 2;
@@ -121,7 +121,7 @@ fn cells_by(
 // The registers of 24 bytes, two bytes each, low first.
 fn registers_in(bytes: &[u8]) -> [Register; 12]
     requires { length bytes.now ≡ 24 }
-    ensures { result ≡ registersOf bytes.now }
+    ensures { result ≡ registers_of bytes.now }
 {
     let mut registers = [Register(0); 12];
     for k in 0..12 {
@@ -133,7 +133,7 @@ fn registers_in(bytes: &[u8]) -> [Register; 12]
 // Each cell's answer and voltage into its own place of the lent memory.
 fn give_all(cells: [Cell; 12], microvolts: &mut [i32], volts: &mut [f32], answers: &mut [u32])
     requires { (12 ≤ length microvolts.old) × (12 ≤ length volts.old) × (12 ≤ length answers.old) }
-    ensures { (microvolts.new ≡ byCell microvoltsOr cells microvolts.old) × (volts.new ≡ byCell voltsOr cells volts.old) × (answers.new ≡ byCell packedOr cells answers.old) }
+    ensures { (microvolts.new ≡ by_cell microvolts_or cells microvolts.old) × (volts.new ≡ by_cell volts_or cells volts.old) × (answers.new ≡ by_cell packed_or cells answers.old) }
 {
     for k in 0..12 {
         answers[k] = give(cells[k], &mut microvolts[k], &mut volts[k]);

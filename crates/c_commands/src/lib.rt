@@ -1,9 +1,9 @@
 // The command writer over bytes, for the C side (document 01, "The C side"): the command's words go out as two bytes each, low first, and the
 // answer is packed into one number. The bytes are laid straight into the lent ones, with no line of words in between.
 ghost use Rattle.std.specs.Prelude.{◌≡◌, ◌∷◌, [], ◌++◌, ◌+◌, ◌*◌, ◌/◌, ◌%◌, ◌≤◌, length};
-ghost use Rattle.characters.specs.Nibble.{nibbleWord};
-ghost use Rattle.lines.specs.Line.{charactersOf, line_of};
-ghost use Rattle.questions.specs.Bytes.{fillPairs};
+ghost use Rattle.characters.specs.Nibble.{nibble_word};
+ghost use Rattle.lines.specs.Line.{characters_of, line_of};
+ghost use Rattle.questions.specs.Bytes.{fill_pairs};
 ghost use Rattle.c_commands.specs.CommandBytes.{laid, CommandBytesDone};
 
 use characters::{PREAMBLE, STOP};
@@ -33,7 +33,7 @@ pub fn command_bytes(q: Question, out: &mut [u8]) -> u32
 // The line of some bytes with fill pairs behind them.
 fn lay_line(head: &[u8], pairs: usize, out: &mut [u8])
     requires { (length head.now ≤ 6) × (pairs ≤ 32) × (4 * length head.now + 8 * pairs + 4 ≤ length out.old) }
-    ensures { out.new ≡ laid out.old 0 (line_of (head.now ++ fillPairs pairs)) }
+    ensures { out.new ≡ laid out.old 0 (line_of (head.now ++ fill_pairs pairs)) }
 {
     lay_word(out, 0, PREAMBLE);
     lay_bytes(head, out);
@@ -45,7 +45,7 @@ fn lay_line(head: &[u8], pairs: usize, out: &mut [u8])
 // The characters of some bytes, behind the preamble.
 fn lay_bytes(bytes: &[u8], out: &mut [u8])
     requires { 4 * length bytes.now + 2 ≤ length out.old }
-    ensures { out.new ≡ laid out.old 2 (charactersOf bytes.now) }
+    ensures { out.new ≡ laid out.old 2 (characters_of bytes.now) }
 {
     let mut i = 0;
     while i < bytes.len() {
@@ -57,7 +57,7 @@ fn lay_bytes(bytes: &[u8], out: &mut [u8])
 // A byte's two characters, low nibble first.
 fn lay_byte(out: &mut [u8], at: usize, byte: u8)
     requires { at + 4 ≤ length out.old }
-    ensures { out.new ≡ laid out.old at (charactersOf (byte ∷ [])) }
+    ensures { out.new ≡ laid out.old at (characters_of (byte ∷ [])) }
 {
     let both = two_words(byte);
     lay_word(out, at, (both % 65536) as u16);
@@ -66,7 +66,7 @@ fn lay_byte(out: &mut [u8], at: usize, byte: u8)
 
 // The characters of both nibbles of a byte, the low nibble's in the lower half: as `word_of` spreads one nibble, with both spread at once.
 fn two_words(byte: u8) -> u32
-    ensures { result ≡ nibbleWord (byte % 16) + 65536 * nibbleWord (byte / 16) }
+    ensures { result ≡ nibble_word (byte % 16) + 65536 * nibble_word (byte / 16) }
 {
     let x = byte as u32;
     let apart = (x | x * 4096) & 0xF000F;
@@ -86,7 +86,7 @@ fn lay_word(out: &mut [u8], at: usize, word: u16)
 // So many fill pairs, from a place on.
 fn lay_pairs(out: &mut [u8], start: usize, pairs: usize)
     requires { (pairs ≤ 32) × (start + 8 * pairs ≤ length out.old) }
-    ensures { out.new ≡ laid out.old start (charactersOf (fillPairs pairs)) }
+    ensures { out.new ≡ laid out.old start (characters_of (fill_pairs pairs)) }
 {
     let mut k = 0;
     while k < pairs {
@@ -98,7 +98,7 @@ fn lay_pairs(out: &mut [u8], start: usize, pairs: usize)
 // One fill pair, C2 D3: the words of nibbles 2, C, 3, D, written out so that the eight stores become one.
 fn lay_pair(out: &mut [u8], at: usize)
     requires { at + 8 ≤ length out.old }
-    ensures { out.new ≡ laid out.old at (charactersOf (fillPairs 1)) }
+    ensures { out.new ≡ laid out.old at (characters_of (fill_pairs 1)) }
 {
     out[at] = 0x4C;
     out[at + 1] = 0x0D;

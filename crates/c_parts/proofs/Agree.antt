@@ -3,5 +3,5 @@ use mathlib.Core.Path.{sym, ◌∙◌}
 use Rattle.ground.specs.Agree.{Settled}
 use Rattle.c_parts.proofs.part_bytes.Reads as part_bytes
 
-pub part-bytes-settled : Settled part_bytes.Post
-part-bytes-settled l given r r' left left' p q = p ∙ sym q
+pub part_bytes_settled : Settled part_bytes.Post
+part_bytes_settled l given r r' left left' p q = p ∙ sym q

@@ -1,13 +1,13 @@
 -- The second call over bytes (document 01, "The C side").
 use Rattle.std.specs.Prelude.{cond, List, ℕ, ◌+◌, ◌*◌, eqb}
-use Rattle.packing.specs.Words.{lineOn}
+use Rattle.packing.specs.Words.{line_on}
 use Rattle.questions.specs.declared.question.Question.{Question}
 use Rattle.parts.specs.Part.{start_of}
 
 -- bits 0 to 7 how many words the part has, 4 or none; bits 16 to 31 the place of its first word
-abbrev pub packedStart : ℕ → ℕ
-packedStart start = cond (eqb start 0) 0 (4 + 65536 * start)
+abbrev pub packed_start : ℕ → ℕ
+packed_start start = cond (eqb start 0) 0 (4 + 65536 * start)
 
 -- the part of the line that carries the device's register; a line of an odd number of bytes has none
-unfoldable pub partIn : Question → (device : ℕ) → (line : List ℕ) → ℕ
-partIn q device line = packedStart (start_of q (lineOn line) device)
+unfoldable pub part_in : Question → (device : ℕ) → (line : List ℕ) → ℕ
+part_in q device line = packed_start (start_of q (line_on line) device)

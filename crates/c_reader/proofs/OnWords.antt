@@ -12,109 +12,109 @@ use lib.ListN.{length, take, drop}
 use lib.Seq.{sets, take_at, take-append-le}
 use borrow.Author.Tests.{ne_eqb}
 use Rattle.lines.specs.Line.{bytes_of}
-use Rattle.lines.specs.Write.{atFront}
-use Rattle.packing.specs.Words.{asBytes, lineOn, lineIn}
-use Rattle.packing.proofs.Taken.{whole-or-none, packed-front}
-use Rattle.questions.proofs.Good.{words-most, words-least}
-use Rattle.questions.specs.Question.{goodQuestion}
+use Rattle.lines.specs.Write.{at_front}
+use Rattle.packing.specs.Words.{as_bytes, line_on, line_in}
+use Rattle.packing.proofs.Taken.{whole_or_none, packed_front}
+use Rattle.questions.proofs.Good.{words_most, words_least}
+use Rattle.questions.specs.Question.{good_question}
 use Rattle.questions.specs.Shape.{shape_of}
 use Rattle.questions.specs.declared.question.Question as asked
-use Rattle.readings.specs.Reading.{valuesTaken}
-use Rattle.readings.specs.Packed.{packedReading}
+use Rattle.readings.specs.Reading.{values_taken}
+use Rattle.readings.specs.Packed.{packed_reading}
 use Rattle.readings.specs.declared.Reading.{Reading}
-use Rattle.judging.specs.Judge.{screenRows, rows_of, judgeOf}
-use Rattle.judging.proofs.Accepted.{values-fit, some-values}
-use Rattle.judging.proofs.Bounds.{room-enough}
-use Rattle.reader.specs.Read.{valuesOn, ReadDone}
-use Rattle.reader.proofs.Values.{handed-number}
-use Rattle.c_reader.specs.ReadBytes.{readingOn, ReadBytesDone}
+use Rattle.judging.specs.Judge.{screen_rows, rows_of, judge_of}
+use Rattle.judging.proofs.Accepted.{values_fit, some_values}
+use Rattle.judging.proofs.Bounds.{room_enough}
+use Rattle.reader.specs.Read.{values_on, ReadDone}
+use Rattle.reader.proofs.Values.{handed_number}
+use Rattle.c_reader.specs.ReadBytes.{reading_on, ReadBytesDone}
 
 -- ---- a line of another length
 
 -- a line that no answer has the length of is judged as no line at all
-no-line-fits : (q : asked.Question) (line : List ℕ) (room : ℕ) → 140 < length line → judgeOf q line room ≡ judgeOf q [] room
-unfolding judgeOf rows_of screenRows
-no-line-fits q line room long = by_tests (goodQuestion q) (leb (shape_of q).values room) refl refl
+no_line_fits : (q : asked.Question) (line : List ℕ) (room : ℕ) → 140 < length line → judge_of q line room ≡ judge_of q [] room
+unfolding judge_of rows_of screen_rows
+no_line_fits q line room long = by_tests (good_question q) (leb (shape_of q).values room) refl refl
   where
-    by_tests : (t u : Bool) → goodQuestion q ≡ t → leb (shape_of q).values room ≡ u → judgeOf q line room ≡ judgeOf q [] room
+    by_tests : (t u : Bool) → good_question q ≡ t → leb (shape_of q).values room ≡ u → judge_of q line room ≡ judge_of q [] room
     by_tests false u bad space = simp bad
     by_tests true false good short = simp (good, short)
     by_tests true true good enough =
-        let other = ne_eqb (length line) (shape_of q).words (λ e. omega (arith, words-most q good)) in
-        let none = ne_eqb 0 (shape_of q).words (λ e. omega (arith, words-least q good)) in
+        let other = ne_eqb (length line) (shape_of q).words (λ e. omega (arith, words_most q good)) in
+        let none = ne_eqb 0 (shape_of q).words (λ e. omega (arith, words_least q good)) in
         simp (good, enough, other, none)
 
 -- the line as the buffer takes it
-pub as-taken : (q : asked.Question) (bytes : List ℕ) (room : ℕ) → judgeOf q (lineIn 140 bytes) room ≡ judgeOf q (lineOn bytes) room
-as-taken q bytes room =
+pub as_taken : (q : asked.Question) (bytes : List ℕ) (room : ℕ) → judge_of q (line_in 140 bytes) room ≡ judge_of q (line_on bytes) room
+as_taken q bytes room =
     ⊎_elim
-    (λ (whole : lineIn 140 bytes ≡ lineOn bytes). ap (λ (l : List ℕ). judgeOf q l room) whole)
-    (λ (none : (lineIn 140 bytes ≡ []) × (140 < length (lineOn bytes))).
-    ap (λ (l : List ℕ). judgeOf q l room) none.0 ∙ sym (no-line-fits q (lineOn bytes) room none.1))
-    (whole-or-none 140 bytes)
+    (λ (whole : line_in 140 bytes ≡ line_on bytes). ap (λ (l : List ℕ). judge_of q l room) whole)
+    (λ (none : (line_in 140 bytes ≡ []) × (140 < length (line_on bytes))).
+    ap (λ (l : List ℕ). judge_of q l room) none.0 ∙ sym (no_line_fits q (line_on bytes) room none.1))
+    (whole_or_none 140 bytes)
 
 -- an answer with values was taken whole
-pub values-as-taken : (q : asked.Question) (bytes : List ℕ) (room : ℕ)
-    → valuesOn (lineIn 140 bytes) (valuesTaken (judgeOf q (lineOn bytes) room)) ≡ valuesOn (lineOn bytes) (valuesTaken (judgeOf q (lineOn bytes) room))
-values-as-taken q bytes room =
+pub values_as_taken : (q : asked.Question) (bytes : List ℕ) (room : ℕ)
+    → values_on (line_in 140 bytes) (values_taken (judge_of q (line_on bytes) room)) ≡ values_on (line_on bytes) (values_taken (judge_of q (line_on bytes) room))
+values_as_taken q bytes room =
     ⊎_elim
-    (λ (whole : lineIn 140 bytes ≡ lineOn bytes). ap (λ (l : List ℕ). valuesOn l (valuesTaken (judgeOf q (lineOn bytes) room))) whole)
-    (λ (none : (lineIn 140 bytes ≡ []) × (140 < length (lineOn bytes))).
-    ap (valuesOn (lineIn 140 bytes)) (long none.1) ∙ sym (ap (valuesOn (lineOn bytes)) (long none.1)))
-    (whole-or-none 140 bytes)
+    (λ (whole : line_in 140 bytes ≡ line_on bytes). ap (λ (l : List ℕ). values_on l (values_taken (judge_of q (line_on bytes) room))) whole)
+    (λ (none : (line_in 140 bytes ≡ []) × (140 < length (line_on bytes))).
+    ap (values_on (line_in 140 bytes)) (long none.1) ∙ sym (ap (values_on (line_on bytes)) (long none.1)))
+    (whole_or_none 140 bytes)
   where
-    long : 140 < length (lineOn bytes) → valuesTaken (judgeOf q (lineOn bytes) room) ≡ 0
+    long : 140 < length (line_on bytes) → values_taken (judge_of q (line_on bytes) room) ≡ 0
     long over =
-        ⊎_elim (λ (none : valuesTaken (judgeOf q (lineOn bytes) room) ≡ 0). none)
-        (λ some. let c = some-values q (lineOn bytes) room some in absurd (omega (arith, c.taken.words, words-most q c.taken.good)))
-        (eq-zero-or-pos (valuesTaken (judgeOf q (lineOn bytes) room)))
+        ⊎_elim (λ (none : values_taken (judge_of q (line_on bytes) room) ≡ 0). none)
+        (λ some. let c = some_values q (line_on bytes) room some in absurd (omega (arith, c.taken.words, words_most q c.taken.good)))
+        (eq-zero-or-pos (values_taken (judge_of q (line_on bytes) room)))
 
-values-on : (q : asked.Question) (line out : List ℕ)
-    → valuesOn (lineIn 140 line) (valuesTaken (readingOn q line out)) ≡ valuesOn (lineOn line) (valuesTaken (readingOn q line out))
-unfolding readingOn
-values-on q line out = values-as-taken q line (length out / 2)
+values_on_lem : (q : asked.Question) (line out : List ℕ)
+    → values_on (line_in 140 line) (values_taken (reading_on q line out)) ≡ values_on (line_on line) (values_taken (reading_on q line out))
+unfolding reading_on
+values_on_lem q line out = values_as_taken q line (length out / 2)
 
-values-number : (q : asked.Question) (line out : List ℕ)
-    → length (valuesOn (lineOn line) (valuesTaken (readingOn q line out))) ≡ valuesTaken (readingOn q line out)
-unfolding readingOn
-values-number q line out = handed-number q (lineOn line) (length out / 2)
+values_number : (q : asked.Question) (line out : List ℕ)
+    → length (values_on (line_on line) (values_taken (reading_on q line out))) ≡ values_taken (reading_on q line out)
+unfolding reading_on
+values_number q line out = handed_number q (line_on line) (length out / 2)
 
 -- ---- the whole call
 
-module _ (q : asked.Question) (line out : List ℕ) (room : ℕ) (is-room : room ≡ min (length out / 2) 32) (taken-line blank part : List ℕ) (reading : Reading)
-    (is-line : taken-line ≡ lineIn 140 line) (size : length blank ≡ room) (done : ReadDone q taken-line blank part reading) where
-  pub says_so : reading ≡ readingOn q line out
-  unfolding readingOn
+module _ (q : asked.Question) (line out : List ℕ) (room : ℕ) (is_room : room ≡ min (length out / 2) 32) (taken_line blank part : List ℕ) (reading : Reading)
+    (is_line : taken_line ≡ line_in 140 line) (size : length blank ≡ room) (done : ReadDone q taken_line blank part reading) where
+  pub says_so : reading ≡ reading_on q line out
+  unfolding reading_on
   says_so =
-      done.says ∙ ap₂ (λ (l : List ℕ) (n : ℕ). judgeOf q l n) is-line (size ∙ is-room) ∙ room-enough q (lineIn 140 line) (length out / 2)
-      ∙ as-taken q line (length out / 2)
+      done.says ∙ ap₂ (λ (l : List ℕ) (n : ℕ). judge_of q l n) is_line (size ∙ is_room) ∙ room_enough q (line_in 140 line) (length out / 2)
+      ∙ as_taken q line (length out / 2)
 
-  pub few-values : valuesTaken reading ≤ room
-  few-values =
-      let fit = values-fit q taken-line (length blank) in
-      omega (arith, ap valuesTaken done.says, fit.1)
+  pub few_values : values_taken reading ≤ room
+  few_values =
+      let fit = values_fit q taken_line (length blank) in
+      omega (arith, ap values_taken done.says, fit.1)
 
   pub read_done : (rest out' : List ℕ) (r : ℕ) → length part ≡ length blank
-      → out' ≡ sets out 0 (asBytes (take (length out / 2) (take (valuesTaken reading) (part ++ rest)))) → r ≡ packedReading reading
+      → out' ≡ sets out 0 (as_bytes (take (length out / 2) (take (values_taken reading) (part ++ rest)))) → r ≡ packed_reading reading
       → ReadBytesDone q line out out' r
   read_done rest out' r kept packs packed =
-      let m = valuesTaken reading in
-      let same : m ≡ valuesTaken (readingOn q line out) = ap valuesTaken says_so in
-      let values = valuesOn (lineOn line) (valuesTaken (readingOn q line out)) in
-      let many : length values ≡ m = values-number q line out ∙ sym same in
-      let stands : part ≡ atFront (valuesOn taken-line m) blank =
-      done.leaves ∙ ap (λ (x : Reading). atFront (valuesOn taken-line (valuesTaken x)) blank) (sym done.says) in
-      let given : valuesOn taken-line m ≡ values =
-      ap₂ valuesOn is-line same ∙ values-read in
+      let m = values_taken reading in
+      let same : m ≡ values_taken (reading_on q line out) = ap values_taken says_so in
+      let values = values_on (line_on line) (values_taken (reading_on q line out)) in
+      let many : length values ≡ m = values_number q line out ∙ sym same in
+      let stands : part ≡ at_front (values_on taken_line m) blank =
+      done.leaves ∙ ap (λ (x : Reading). at_front (values_on taken_line (values_taken x)) blank) (sym done.says) in
+      let given : values_on taken_line m ≡ values =
+      ap₂ values_on is_line same ∙ values_read in
       let front : take m (part ++ rest) ≡ values =
-      take-append-le m part rest (omega (arith, few-values, kept)) ∙ ap (take m) (stands ∙ ap (λ (v : List ℕ). atFront v blank) given)
+      take-append-le m part rest (omega (arith, few_values, kept)) ∙ ap (take m) (stands ∙ ap (λ (v : List ℕ). at_front v blank) given)
       ∙ take_at values (drop (length values) blank) m many in
       record {
-        says = packed ∙ ap packedReading says_so;
+        says = packed ∙ ap packed_reading says_so;
         leaves =
-            packs ∙ ap (λ (v : List ℕ). sets out 0 (asBytes (take (length out / 2) v))) front
-            ∙ packed-front values out (omega (arith, many, few-values, is-room));
+            packs ∙ ap (λ (v : List ℕ). sets out 0 (as_bytes (take (length out / 2) v))) front
+            ∙ packed_front values out (omega (arith, many, few_values, is_room));
       }
     where
-      values-read : valuesOn (lineIn 140 line) (valuesTaken (readingOn q line out)) ≡ valuesOn (lineOn line) (valuesTaken (readingOn q line out))
-      values-read = values-on q line out
+      values_read : values_on (line_in 140 line) (values_taken (reading_on q line out)) ≡ values_on (line_on line) (values_taken (reading_on q line out))
+      values_read = values_on_lem q line out

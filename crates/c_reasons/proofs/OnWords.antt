@@ -9,47 +9,47 @@ use native.Mathlib.Omega.{arith}
 use lib.Dec.{eqb, leb}
 use lib.ListN.{length}
 use borrow.Author.Tests.{ne_eqb}
-use Rattle.packing.specs.Words.{lineOn, lineIn}
-use Rattle.packing.proofs.Taken.{whole-or-none}
-use Rattle.questions.specs.Question.{goodQuestion}
+use Rattle.packing.specs.Words.{line_on, line_in}
+use Rattle.packing.proofs.Taken.{whole_or_none}
+use Rattle.questions.specs.Question.{good_question}
 use Rattle.questions.specs.Shape.{shape_at, shape_of}
 use Rattle.questions.specs.declared.question.Question.{Question}
-use Rattle.questions.proofs.Good.{words-most, words-least}
-use Rattle.judging.specs.Judge.{screenRows, rows_of, judgeOf}
-use Rattle.reasons.specs.Reason.{reasonOf}
+use Rattle.questions.proofs.Good.{words_most, words_least}
+use Rattle.judging.specs.Judge.{screen_rows, rows_of, judge_of}
+use Rattle.reasons.specs.Reason.{reason_of}
 use Rattle.reasons.specs.declared.Spot.{Spot}
 use Rattle.reasons.specs.declared.Spot.TheVariants.{Asked, Whole, Word, Byte}
 use Rattle.reasons.specs.declared.Right.{Right}
 use Rattle.reasons.specs.declared.Right.TheVariants.{One, Several}
-use Rattle.c_reasons.specs.Explain.{inBytes, reasonOn, howPlaced, isOne}
+use Rattle.c_reasons.specs.Explain.{in_bytes, reason_on, how_placed, is_one}
 
 -- a line that no answer has the length of is told as no line at all
-no-line-fits : (q : Question) (bytes : ℕ) (line : List ℕ) → 140 < length line → inBytes q bytes (reasonOf q []) ≡ inBytes q bytes (reasonOf q line)
-unfolding reasonOf judgeOf rows_of screenRows
-no-line-fits q bytes line long = by_tests (goodQuestion q) (leb (shape_of q).values 32) refl refl
+no_line_fits : (q : Question) (bytes : ℕ) (line : List ℕ) → 140 < length line → in_bytes q bytes (reason_of q []) ≡ in_bytes q bytes (reason_of q line)
+unfolding reason_of judge_of rows_of screen_rows
+no_line_fits q bytes line long = by_tests (good_question q) (leb (shape_of q).values 32) refl refl
   where
-    by_tests : (t u : Bool) → goodQuestion q ≡ t → leb (shape_of q).values 32 ≡ u → inBytes q bytes (reasonOf q []) ≡ inBytes q bytes (reasonOf q line)
+    by_tests : (t u : Bool) → good_question q ≡ t → leb (shape_of q).values 32 ≡ u → in_bytes q bytes (reason_of q []) ≡ in_bytes q bytes (reason_of q line)
     by_tests false u bad space = simp bad
     by_tests true false good short = simp (good, short)
     by_tests true true good enough =
-        let other = ne_eqb (length line) (shape_of q).words (λ e. omega (arith, words-most q good)) in
-        let none = ne_eqb 0 (shape_of q).words (λ e. omega (arith, words-least q good)) in
+        let other = ne_eqb (length line) (shape_of q).words (λ e. omega (arith, words_most q good)) in
+        let none = ne_eqb 0 (shape_of q).words (λ e. omega (arith, words_least q good)) in
         simp (good, enough, other, none)
 
-pub as-taken : (q : Question) (bytes : List ℕ) → inBytes q (length bytes) (reasonOf q (lineIn 140 bytes)) ≡ reasonOn q bytes
-unfolding reasonOn
-as-taken q bytes =
+pub as_taken : (q : Question) (bytes : List ℕ) → in_bytes q (length bytes) (reason_of q (line_in 140 bytes)) ≡ reason_on q bytes
+unfolding reason_on
+as_taken q bytes =
     ⊎_elim
-    (λ (whole : lineIn 140 bytes ≡ lineOn bytes). ap (λ (l : List ℕ). inBytes q (length bytes) (reasonOf q l)) whole)
-    (λ (none : (lineIn 140 bytes ≡ []) × (140 < length (lineOn bytes))).
-    ap (λ (l : List ℕ). inBytes q (length bytes) (reasonOf q l)) none.0 ∙ no-line-fits q (length bytes) (lineOn bytes) none.1)
-    (whole-or-none 140 bytes)
+    (λ (whole : line_in 140 bytes ≡ line_on bytes). ap (λ (l : List ℕ). in_bytes q (length bytes) (reason_of q l)) whole)
+    (λ (none : (line_in 140 bytes ≡ []) × (140 < length (line_on bytes))).
+    ap (λ (l : List ℕ). in_bytes q (length bytes) (reason_of q l)) none.0 ∙ no_line_fits q (length bytes) (line_on bytes) none.1)
+    (whole_or_none 140 bytes)
 
 -- ---- bounds
 
-pub words-le : (q : Question) → (shape_of q).words ≤ 14 + 4 * q.n + 2 * q.alive
+pub words_le : (q : Question) → (shape_of q).words ≤ 14 + 4 * q.n + 2 * q.alive
 unfolding shape_of
-words-le q = at q.kind
+words_le q = at q.kind
   where
     at : (k : ℕ) → (shape_at k q).words ≤ 14 + 4 * q.n + 2 * q.alive
     at zero = omega arith
@@ -58,12 +58,12 @@ words-le q = at q.kind
     at (suc (suc (suc zero))) = omega arith
     at (suc (suc (suc (suc k)))) = omega arith
 
-pub how-most : (spot : Spot) → howPlaced spot ≤ 4
-how-most (Asked f) = omega arith
-how-most Whole = omega arith
-how-most (Word i) = omega arith
-how-most (Byte i) = omega arith
+pub how_most : (spot : Spot) → how_placed spot ≤ 4
+how_most (Asked f) = omega arith
+how_most Whole = omega arith
+how_most (Word i) = omega arith
+how_most (Byte i) = omega arith
 
-pub one-most : (right : Right) → isOne right ≤ 1
-one-most (One x) = omega arith
-one-most Several = omega arith
+pub one_most : (right : Right) → is_one right ≤ 1
+one_most (One x) = omega arith
+one_most Several = omega arith

@@ -1,10 +1,10 @@
 -- Why an answer is turned away, over bytes (document 02, M-101; document 01, "The C side").
 use Rattle.std.specs.Prelude.{List, ℕ, ◌+◌, ◌*◌, min, length}
-use Rattle.packing.specs.Words.{lineOn}
+use Rattle.packing.specs.Words.{line_on}
 use Rattle.questions.specs.Shape.{shape_of}
 use Rattle.questions.specs.declared.question.Question.{Question}
-use Rattle.readings.specs.Reading.{refusalNumber}
-use Rattle.reasons.specs.Reason.{found, reasonOf}
+use Rattle.readings.specs.Reading.{refusal_number}
+use Rattle.reasons.specs.Reason.{found, reason_of}
 use Rattle.reasons.specs.declared.Field.{Field}
 use Rattle.reasons.specs.declared.Field.TheVariants as field
 use Rattle.reasons.specs.declared.Spot.{Spot}
@@ -16,51 +16,51 @@ use Rattle.reasons.specs.declared.Reason.{Reason}
 use Rattle.reasons.specs.declared.Reason.TheVariants.{Accepted, TurnedAway}
 
 -- LENGTH counts bytes: so many stood, and twice the answer's words would have passed; every other spot is as on words
-abbrev pub countedIn : Question → (bytes : ℕ) → Because → Spot → Because
-countedIn q bytes b Whole = found b.why Whole bytes (One (2 * (shape_of q).words))
-countedIn q bytes b (Asked f) = b
-countedIn q bytes b (Word i) = b
-countedIn q bytes b (Byte i) = b
+abbrev pub counted_in : Question → (bytes : ℕ) → Because → Spot → Because
+counted_in q bytes b Whole = found b.why Whole bytes (One (2 * (shape_of q).words))
+counted_in q bytes b (Asked f) = b
+counted_in q bytes b (Word i) = b
+counted_in q bytes b (Byte i) = b
 
-abbrev pub inBytes : Question → (bytes : ℕ) → Reason → Reason
-inBytes q bytes Accepted = Accepted
-inBytes q bytes (TurnedAway b) = TurnedAway (countedIn q bytes b b.spot)
+abbrev pub in_bytes : Question → (bytes : ℕ) → Reason → Reason
+in_bytes q bytes Accepted = Accepted
+in_bytes q bytes (TurnedAway b) = TurnedAway (counted_in q bytes b b.spot)
 
 -- the reason of a line of bytes: that of its words, which are none where the number of bytes is odd
-unfoldable pub reasonOn : Question → (line : List ℕ) → Reason
-reasonOn q line = inBytes q (length line) (reasonOf q (lineOn line))
+unfoldable pub reason_on : Question → (line : List ℕ) → Reason
+reason_on q line = in_bytes q (length line) (reason_of q (line_on line))
 
 -- ---- packed into one number
 
 -- how a spot is placed: 1 a word, 2 a byte, 3 the line, 4 a field of the question
-abbrev pub howPlaced : Spot → ℕ
-howPlaced (Word i) = 1
-howPlaced (Byte i) = 2
-howPlaced Whole = 3
-howPlaced (Asked f) = 4
+abbrev pub how_placed : Spot → ℕ
+how_placed (Word i) = 1
+how_placed (Byte i) = 2
+how_placed Whole = 3
+how_placed (Asked f) = 4
 
 -- a field as the argument of the C call, counted from 0
-abbrev pub argumentOf : Field → ℕ
-argumentOf field.Kind = 0
-argumentOf field.Devices = 1
-argumentOf field.Alive = 2
-argumentOf field.Device = 5
+abbrev pub argument_of : Field → ℕ
+argument_of field.Kind = 0
+argument_of field.Devices = 1
+argument_of field.Alive = 2
+argument_of field.Device = 5
 
 -- and where: the word or the byte, 0 for the line, the field's argument
 abbrev pub place_of : Spot → ℕ
 place_of (Word i) = i
 place_of (Byte i) = i
 place_of Whole = 0
-place_of (Asked f) = argumentOf f
+place_of (Asked f) = argument_of f
 
 -- whether one thing alone would have passed, and which
-abbrev pub isOne : Right → ℕ
-isOne (One x) = 1
-isOne Several = 0
+abbrev pub is_one : Right → ℕ
+is_one (One x) = 1
+is_one Several = 0
 
-abbrev pub rightOf : Right → ℕ
-rightOf (One x) = x
-rightOf Several = 0
+abbrev pub right_of : Right → ℕ
+right_of (One x) = x
+right_of Several = 0
 
 -- sixteen bits of a number: 65,535 for more
 abbrev pub sixteen : ℕ → ℕ
@@ -68,15 +68,15 @@ sixteen x = min x 65535
 
 -- Bits 0 to 7 the number; bits 8 to 10 how it is placed; bit 11 whether one thing alone would have passed; bits 16 to 31 the place; bits 32 to 47 what
 -- stood; bits 48 to 63 the one thing.
-abbrev pub packedBecause : Because → ℕ
-packedBecause b =
-    refusalNumber b.why + 256 * howPlaced b.spot + 2048 * isOne b.right
-    + 65536 * sixteen (place_of b.spot) + 4294967296 * sixteen b.stood + 281474976710656 * sixteen (rightOf b.right)
+abbrev pub packed_because : Because → ℕ
+packed_because b =
+    refusal_number b.why + 256 * how_placed b.spot + 2048 * is_one b.right
+    + 65536 * sixteen (place_of b.spot) + 4294967296 * sixteen b.stood + 281474976710656 * sixteen (right_of b.right)
 
 -- 0 where the line is accepted
-abbrev pub packedReason : Reason → ℕ
-packedReason Accepted = 0
-packedReason (TurnedAway b) = packedBecause b
+abbrev pub packed_reason : Reason → ℕ
+packed_reason Accepted = 0
+packed_reason (TurnedAway b) = packed_because b
 
-abbrev pub packedOn : Question → (line : List ℕ) → ℕ
-packedOn q line = packedReason (reasonOn q line)
+abbrev pub packed_on : Question → (line : List ℕ) → ℕ
+packed_on q line = packed_reason (reason_on q line)

@@ -2,7 +2,7 @@
 // counts bytes, and for the C side the reason is packed into one number.
 ghost use Rattle.std.specs.Prelude.{◌≡◌};
 ghost use Rattle.reasons.specs.declared.Spot.TheVariants.{Whole};
-ghost use Rattle.c_reasons.specs.Explain.{countedIn, inBytes, reasonOn, howPlaced, argumentOf, place_of, isOne, rightOf, sixteen, packedBecause, packedReason, packedOn};
+ghost use Rattle.c_reasons.specs.Explain.{counted_in, in_bytes, reason_on, how_placed, argument_of, place_of, is_one, right_of, sixteen, packed_because, packed_reason, packed_on};
 
 use packing::take_line;
 use questions::question::{Question, shape_of};
@@ -11,7 +11,7 @@ use slices::least;
 
 // Why the reader takes a line of bytes or turns it away.
 pub fn explain_bytes(q: Question, line: &[u8]) -> Reason
-    ensures { result ≡ reasonOn q line.now }
+    ensures { result ≡ reason_on q line.now }
 {
     let mut words: [u16; 140] = [0; 140];
     let count = take_line(line, &mut words);
@@ -21,14 +21,14 @@ pub fn explain_bytes(q: Question, line: &[u8]) -> Reason
 
 // The same as one number.
 pub fn explain_packed(q: Question, line: &[u8]) -> u64
-    ensures { result ≡ packedOn q line.now }
+    ensures { result ≡ packed_on q line.now }
 {
     let reason = explain_bytes(q, line);
     packed_reason(reason)
 }
 
 fn packed_reason(reason: Reason) -> u64
-    ensures { result ≡ packedReason reason }
+    ensures { result ≡ packed_reason reason }
 {
     match reason {
         Reason::Accepted => 0,
@@ -37,7 +37,7 @@ fn packed_reason(reason: Reason) -> u64
 }
 
 fn in_bytes(q: Question, bytes: usize, reason: Reason) -> Reason
-    ensures { result ≡ inBytes q bytes reason }
+    ensures { result ≡ in_bytes q bytes reason }
 {
     match reason {
         Reason::Accepted => Reason::Accepted,
@@ -47,7 +47,7 @@ fn in_bytes(q: Question, bytes: usize, reason: Reason) -> Reason
 
 // Of the line as a whole the bytes are told, not the words.
 fn counted_in(q: Question, bytes: usize, b: Because) -> Because
-    ensures { result ≡ countedIn q bytes b b.spot }
+    ensures { result ≡ counted_in q bytes b b.spot }
 {
     let spot = b.spot;
     match spot {
@@ -59,7 +59,7 @@ fn counted_in(q: Question, bytes: usize, b: Because) -> Because
 }
 
 fn whole_in_bytes(q: Question, bytes: usize, b: Because) -> Because
-    ensures { result ≡ countedIn q bytes b Whole }
+    ensures { result ≡ counted_in q bytes b Whole }
 {
     let s = shape_of(q);
     let why = b.why;
@@ -74,7 +74,7 @@ fn whole_in_bytes(q: Question, bytes: usize, b: Because) -> Because
 // Bits 0 to 7 the number, bits 8 to 10 how it is placed, bit 11 whether one thing alone would have passed, and three numbers of sixteen bits: the
 // place, what stood, and the one thing.
 fn packed_because(b: Because) -> u64
-    ensures { result ≡ packedBecause b }
+    ensures { result ≡ packed_because b }
 {
     let spot = b.spot;
     let stood = b.stood;
@@ -94,7 +94,7 @@ fn packed_because(b: Because) -> u64
 }
 
 fn how_placed(spot: Spot) -> u64
-    ensures { result ≡ howPlaced spot }
+    ensures { result ≡ how_placed spot }
 {
     match spot {
         Spot::Asked(_) => 4,
@@ -117,7 +117,7 @@ fn place_of(spot: Spot) -> usize
 
 // A field as the argument of the C call, counted from 0.
 fn argument_of(field: Field) -> usize
-    ensures { result ≡ argumentOf field }
+    ensures { result ≡ argument_of field }
 {
     match field {
         Field::Kind => 0,
@@ -128,7 +128,7 @@ fn argument_of(field: Field) -> usize
 }
 
 fn is_one(right: Right) -> u64
-    ensures { result ≡ isOne right }
+    ensures { result ≡ is_one right }
 {
     match right {
         Right::One(_) => 1,
@@ -137,7 +137,7 @@ fn is_one(right: Right) -> u64
 }
 
 fn right_of(right: Right) -> usize
-    ensures { result ≡ rightOf right }
+    ensures { result ≡ right_of right }
 {
     match right {
         Right::One(thing) => thing,

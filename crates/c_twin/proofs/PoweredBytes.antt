@@ -9,30 +9,30 @@ use native.Mathlib.Omega.{arith}
 use lib.ListN.{length}
 use lib.Seq.{sets}
 use Rattle.ground.specs.Sweep.{tabulated}
-use Rattle.ground.proofs.Sweep.{length-tabulated}
-use Rattle.ground.proofs.Lists.{sets-append}
-use Rattle.lines.proofs.LeftBy.{left-written, left-as-it-was}
-use Rattle.packing.specs.Words.{asBytes}
-use Rattle.packing.proofs.Back.{length-bytes, bytes-append}
-use Rattle.registers.specs.Memory.{is_chain, powerOnFigure, fresh, powerOnMemory, PoweredOn}
+use Rattle.ground.proofs.Sweep.{length_tabulated}
+use Rattle.ground.proofs.Lists.{sets_append}
+use Rattle.lines.proofs.LeftBy.{left_written, left_as_it_was}
+use Rattle.packing.specs.Words.{as_bytes}
+use Rattle.packing.proofs.Back.{length_bytes, bytes_append}
+use Rattle.registers.specs.Memory.{is_chain, power_on_figure, fresh, power_on_memory, PoweredOn}
 use Rattle.registers.specs.declared.Powered.{Powered}
-use Rattle.registers.proofs.Power.{switched-on}
-use Rattle.c_twin.specs.TwinBytes.{chainIn, powerNumber, PowerBytesDone}
-use Rattle.c_twin.proofs.Bytes.{chain-bytes, sets-whole}
+use Rattle.registers.proofs.Power.{switched_on}
+use Rattle.c_twin.specs.TwinBytes.{chain_in, power_number, PowerBytesDone}
+use Rattle.c_twin.proofs.Bytes.{chain_bytes, sets_whole}
 
 -- ---- the two ways through the call
 
 module _ (n : ℕ) (memory : List ℕ) where
-  pub not-powered : chainIn n (length memory) ≡ false → PowerBytesDone n memory memory 15
-  not-powered no-chain =
-      let is : powerNumber n (length memory) ≡ 15 = ap (λ (t : Bool). cond t 0 15) no-chain in
-      let row : 1 ≤ powerNumber n (length memory) = omega arith in
-      record { says = sym is; leaves = sym (left-as-it-was (asBytes (powerOnMemory n)) memory _ row) }
+  pub not_powered : chain_in n (length memory) ≡ false → PowerBytesDone n memory memory 15
+  not_powered no_chain =
+      let is : power_number n (length memory) ≡ 15 = ap (λ (t : Bool). cond t 0 15) no_chain in
+      let row : 1 ≤ power_number n (length memory) = omega arith in
+      record { says = sym is; leaves = sym (left_as_it_was (as_bytes (power_on_memory n)) memory _ row) }
 
-  pub powered : (after : List ℕ) → chainIn n (length memory) ≡ true → after ≡ asBytes (powerOnMemory n) → PowerBytesDone n memory after 0
+  pub powered : (after : List ℕ) → chain_in n (length memory) ≡ true → after ≡ as_bytes (power_on_memory n) → PowerBytesDone n memory after 0
   powered after chain filled =
-      let is : powerNumber n (length memory) ≡ 0 = ap (λ (t : Bool). cond t 0 15) chain in
-      record { says = sym is; leaves = filled ∙ sym (left-written (asBytes (powerOnMemory n)) memory _ is) }
+      let is : power_number n (length memory) ≡ 0 = ap (λ (t : Bool). cond t 0 15) chain in
+      record { says = sym is; leaves = filled ∙ sym (left_written (as_bytes (power_on_memory n)) memory _ is) }
 
 -- ---- device after device
 
@@ -48,31 +48,31 @@ repeats : (k n i : ℕ) → tabulated fresh n (i + 256 * k) ≡ tabulated fresh 
 repeats k zero i = refl
 repeats k (suc n) i =
     let same : (i + 256 * k) % 256 ≡ i % 256 = omega arith in
-    ap₂ (λ (r : ℕ) (l : List ℕ). powerOnFigure r ∷ l) same
+    ap₂ (λ (r : ℕ) (l : List ℕ). power_on_figure r ∷ l) same
     (ap (λ (at : ℕ). tabulated fresh n at) (sym (suc-add i (256 * k))) ∙ repeats k n (suc i))
 
 -- one device's words
-pub one_on : (blank words : List ℕ) (r : Powered) → PoweredOn 1 blank words r → length blank ≡ 256 → words ≡ powerOnMemory 1
-one_on blank words r done size = switched-on 1 blank words r done (ap (is_chain 1) size)
+pub one_on : (blank words : List ℕ) (r : Powered) → PoweredOn 1 blank words r → length blank ≡ 256 → words ≡ power_on_memory 1
+one_on blank words r done size = switched_on 1 blank words r done (ap (is_chain 1) size)
 
 module _ (memory : List ℕ) where
-  pub none-on : memory ≡ sets memory 0 (asBytes (powerOnMemory 0))
-  unfolding asBytes
-  none-on = refl
+  pub none_on : memory ≡ sets memory 0 (as_bytes (power_on_memory 0))
+  unfolding as_bytes
+  none_on = refl
 
-  pub next-on : (k : ℕ) (words : List ℕ) → words ≡ powerOnMemory 1
-      → sets (sets memory 0 (asBytes (powerOnMemory k))) (2 * (256 * k)) (asBytes words) ≡ sets memory 0 (asBytes (powerOnMemory (k + 1)))
-  next-on k words one =
-      let so_far = powerOnMemory k in
-      let place : 2 * (256 * k) ≡ 0 + length (asBytes so_far) = omega (arith, length-bytes so_far, length-tabulated fresh (256 * k) 0) in
+  pub next_on : (k : ℕ) (words : List ℕ) → words ≡ power_on_memory 1
+      → sets (sets memory 0 (as_bytes (power_on_memory k))) (2 * (256 * k)) (as_bytes words) ≡ sets memory 0 (as_bytes (power_on_memory (k + 1)))
+  next_on k words one =
+      let so_far = power_on_memory k in
+      let place : 2 * (256 * k) ≡ 0 + length (as_bytes so_far) = omega (arith, length_bytes so_far, length_tabulated fresh (256 * k) 0) in
       let more : 256 * k + 256 ≡ 256 * (k + 1) = omega arith in
-      ap (λ (at : ℕ). sets (sets memory 0 (asBytes so_far)) at (asBytes words)) place ∙ sym (sets-append memory 0 (asBytes so_far) (asBytes words))
+      ap (λ (at : ℕ). sets (sets memory 0 (as_bytes so_far)) at (as_bytes words)) place ∙ sym (sets_append memory 0 (as_bytes so_far) (as_bytes words))
       ∙ ap (sets memory 0)
-      (sym (bytes-append so_far words)
-      ∙ ap asBytes
+      (sym (bytes_append so_far words)
+      ∙ ap as_bytes
       (ap (λ (l : List ℕ). so_far ++ l) (one ∙ sym (repeats k 256 0)) ∙ sym (tables fresh (256 * k) 256 0) ∙ ap (λ (m : ℕ). tabulated fresh m 0) more))
 
-  pub all-on : (n : ℕ) → chainIn n (length memory) ≡ true → sets memory 0 (asBytes (powerOnMemory n)) ≡ asBytes (powerOnMemory n)
-  all-on n chain =
-      sets-whole (asBytes (powerOnMemory n)) memory
-      (omega (arith, length-bytes (powerOnMemory n), length-tabulated fresh (256 * n) 0, chain-bytes n (length memory) chain))
+  pub all_on : (n : ℕ) → chain_in n (length memory) ≡ true → sets memory 0 (as_bytes (power_on_memory n)) ≡ as_bytes (power_on_memory n)
+  all_on n chain =
+      sets_whole (as_bytes (power_on_memory n)) memory
+      (omega (arith, length_bytes (power_on_memory n), length_tabulated fresh (256 * n) 0, chain_bytes n (length memory) chain))

@@ -2,10 +2,10 @@
 // the line. A device needs words of its own registers and of the line alone, so that a call takes little of the stack.
 ghost use Rattle.std.specs.Prelude.{◌≡◌, true, ◌+◌, ◌*◌, ◌%◌, ◌≤◌, length};
 ghost use Rattle.std.proofs.lemmas.List.Edits.{sets};
-ghost use Rattle.packing.specs.Words.{words_of, asBytes};
-ghost use Rattle.registers.specs.Memory.{powerOnMemory};
-ghost use Rattle.twin.specs.Step.{withChange, chainWith, hop, hopsFrom};
-ghost use Rattle.c_twin.specs.TwinBytes.{chainIn, chainOn, PowerBytesDone, StepBytesDone, RunBytesDone, BytesDone, InPlace, HoppedBytes};
+ghost use Rattle.packing.specs.Words.{words_of, as_bytes};
+ghost use Rattle.registers.specs.Memory.{power_on_memory};
+ghost use Rattle.twin.specs.Step.{with_change, chain_with, hop, hops_from};
+ghost use Rattle.c_twin.specs.TwinBytes.{chain_in, chain_on, PowerBytesDone, StepBytesDone, RunBytesDone, BytesDone, InPlace, HoppedBytes};
 
 use packing::{pack, store, take_line, unpack};
 use passage::pass::{Change, pass};
@@ -43,7 +43,7 @@ pub fn run_bytes(n: u8, memory: &mut [u8], line: &[u8], out: &mut [u8]) -> u32
 // Devices from .. to - 1, once each in address order, with the rows in their order.
 fn span_bytes(n: u8, from: u8, to: u8, memory: &mut [u8], line: &[u8], out: &mut [u8]) -> u32
     requires { (from ≤ to) × (to ≤ n) }
-    ensures { BytesDone (chainIn n (length memory.old)) (hopsFrom n from to (chainOn memory.old line.now)) memory.old memory.new line.now out.old out.new result }
+    ensures { BytesDone (chain_in n (length memory.old)) (hops_from n from to (chain_on memory.old line.now)) memory.old memory.new line.now out.old out.new result }
 {
     if !is_chain_in(n, memory.len()) {
         return 15;
@@ -65,8 +65,8 @@ fn span_bytes(n: u8, from: u8, to: u8, memory: &mut [u8], line: &[u8], out: &mut
 
 // The steps themselves, of a line that may be a command.
 fn hop_bytes(n: u8, from: u8, to: u8, memory: &mut [u8], line: &[u8], out: &mut [u8])
-    requires { (chainIn n (length memory.old) ≡ true) × (from ≤ to) × (to ≤ n) × (length line.now % 2 ≡ 0) × (length line.now ≤ 280) × (length line.now ≤ length out.old) }
-    ensures { HoppedBytes (hopsFrom n from to (chainOn memory.old line.now)) memory.new out.old out.new }
+    requires { (chain_in n (length memory.old) ≡ true) × (from ≤ to) × (to ≤ n) × (length line.now % 2 ≡ 0) × (length line.now ≤ 280) × (length line.now ≤ length out.old) }
+    ensures { HoppedBytes (hops_from n from to (chain_on memory.old line.now)) memory.new out.old out.new }
 {
     let mut words: [u16; 140] = [0; 140];
     let count = take_line(line, &mut words);
@@ -77,7 +77,7 @@ fn hop_bytes(n: u8, from: u8, to: u8, memory: &mut [u8], line: &[u8], out: &mut 
 // Device after device, the line's words in place.
 fn hops_in_place(n: u8, from: u8, to: u8, memory: &mut [u8], line: &mut [u16])
     requires { (from ≤ to) × (512 * to ≤ length memory.old) }
-    ensures { InPlace (hopsFrom n from to (chainWith (words_of memory.old) line.old)) memory.new line.new }
+    ensures { InPlace (hops_from n from to (chain_with (words_of memory.old) line.old)) memory.new line.new }
 {
     let mut device: u8 = from;
     while device < to {
@@ -89,7 +89,7 @@ fn hops_in_place(n: u8, from: u8, to: u8, memory: &mut [u8], line: &mut [u16])
 // One device, on words of its own registers.
 fn hop_in_place(n: u8, device: u8, memory: &mut [u8], line: &mut [u16])
     requires { 512 * device + 512 ≤ length memory.old }
-    ensures { InPlace (hop n device (chainWith (words_of memory.old) line.old)) memory.new line.new }
+    ensures { InPlace (hop n device (chain_with (words_of memory.old) line.old)) memory.new line.new }
 {
     let start = 512 * device as usize;
     let end = start + 512;
@@ -102,7 +102,7 @@ fn hop_in_place(n: u8, device: u8, memory: &mut [u8], line: &mut [u16])
 // A device's register takes a new value, or none does.
 fn keep(memory: &mut [u8], device: u8, change: Change)
     requires { 512 * device + 512 ≤ length memory.old }
-    ensures { words_of memory.new ≡ withChange (words_of memory.old) device change }
+    ensures { words_of memory.new ≡ with_change (words_of memory.old) device change }
 {
     match change {
         Change::Nothing => {}
@@ -115,8 +115,8 @@ fn keep(memory: &mut [u8], device: u8, change: Change)
 
 // Every device's registers as one device's are after power-on.
 fn switch_on(n: u8, memory: &mut [u8])
-    requires { chainIn n (length memory.old) ≡ true }
-    ensures { memory.new ≡ asBytes (powerOnMemory n) }
+    requires { chain_in n (length memory.old) ≡ true }
+    ensures { memory.new ≡ as_bytes (power_on_memory n) }
 {
     let mut words: [u16; 256] = [0; 256];
     power_on(1, &mut words);
@@ -130,7 +130,7 @@ fn switch_on(n: u8, memory: &mut [u8])
 // Words in their places in memory, from one on.
 fn put_words(memory: &mut [u8], at: usize, words: &[u16])
     requires { 2 * (at + length words.now) ≤ length memory.old }
-    ensures { memory.new ≡ sets memory.old (2 * at) (asBytes words.now) }
+    ensures { memory.new ≡ sets memory.old (2 * at) (as_bytes words.now) }
 {
     let start = 2 * at;
     pack(words, &mut memory[start..]);
@@ -138,7 +138,7 @@ fn put_words(memory: &mut [u8], at: usize, words: &[u16])
 
 // 1 to 32 devices, and exactly 512 bytes for each.
 fn is_chain_in(n: u8, bytes: usize) -> bool
-    ensures { result ≡ chainIn n bytes }
+    ensures { result ≡ chain_in n bytes }
 {
     if n < 1 {
         return false;

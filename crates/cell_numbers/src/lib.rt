@@ -1,12 +1,12 @@
 // Document 01's number of a cell's answer: of a refusal, rows 12 and 13, and of any answer.
 ghost use Rattle.std.specs.Prelude.{◌≡◌};
-ghost use Rattle.cells.specs.Cell.{cellRefusalNumber, cellNumber};
+ghost use Rattle.cells.specs.Cell.{cell_refusal_number, cell_number};
 
 use cells::{Cell, CellRefusal};
 
 // The paper's number of a refusal.
 pub fn refusal_number(why: CellRefusal) -> u8
-    ensures { result ≡ cellRefusalNumber why }
+    ensures { result ≡ cell_refusal_number why }
 {
     match why {
         CellRefusal::Channel => 12,
@@ -16,7 +16,7 @@ pub fn refusal_number(why: CellRefusal) -> u8
 
 // The paper's number of an answer, 0 where nothing is turned away.
 pub fn number_of(cell: Cell) -> u8
-    ensures { result ≡ cellNumber cell }
+    ensures { result ≡ cell_number cell }
 {
     match cell {
         Cell::Measured(_) => 0,

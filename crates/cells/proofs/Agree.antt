@@ -3,5 +3,5 @@ use mathlib.Core.Path.{sym, ◌∙◌}
 use Rattle.ground.specs.Agree.{Settled}
 use Rattle.cells.proofs.read_cell.Reads as read_cell
 
-pub read-cell-settled : Settled read_cell.Post
-read-cell-settled l given r r' left left' p q = p ∙ sym q
+pub read_cell_settled : Settled read_cell.Post
+read_cell_settled l given r r' left left' p q = p ∙ sym q

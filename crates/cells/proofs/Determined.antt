@@ -71,11 +71,11 @@ abbrev below : ℤ → ℕ
 below (pos k) = 0
 below (negsuc k) = suc k
 
-same-exponent : (e g : ℤ) → above e + below g ≡ above g + below e → e ≡ g
-same-exponent (pos a) (pos b) h = ap pos (omega arith)
-same-exponent (pos a) (negsuc b) h = absurd (omega arith)
-same-exponent (negsuc a) (pos b) h = absurd (omega arith)
-same-exponent (negsuc a) (negsuc b) h = ap negsuc (omega arith)
+same_exponent : (e g : ℤ) → above e + below g ≡ above g + below e → e ≡ g
+same_exponent (pos a) (pos b) h = ap pos (omega arith)
+same_exponent (pos a) (negsuc b) h = absurd (omega arith)
+same_exponent (negsuc a) (pos b) h = absurd (omega arith)
+same_exponent (negsuc a) (negsuc b) h = ap negsuc (omega arith)
 
 power : (m : ℕ) (e g : ℤ) → m * 2 ^ (above e + below g) ≡ m * up e * down g
 power m (pos a) (pos b) = simp (pow-add, mul_assoc)
@@ -102,4 +102,4 @@ determined f (fin t m e) (fin u n g) s a c some p q v w =
     by (suc m) zero p q h = absurd (never m (above e + below g) (above g + below e) h)
     by (suc m) (suc n) p q h =
         let r = same_parts f m n (above e + below g) (above g + below e) (digits_of f t m e p) (digits_of f u n g q) h in
-        λ i. fin ((v.0 ∙ sym w.0) i) (r.0 i) (same-exponent e g r.1 i)
+        λ i. fin ((v.0 ∙ sym w.0) i) (r.0 i) (same_exponent e g r.1 i)

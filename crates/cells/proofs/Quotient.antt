@@ -14,13 +14,13 @@ use lib.Ieee.Back.{round_whole}
 use lib.Ieee.Scale.{round_same}
 use mir.Syntax.{w32}
 use mir.Val.{SFits, to_z, of_z}
-use Rattle.cells.specs.Voltage.{negative, voltsOf}
-use Rattle.cells.proofs.Scaled.{times_below, size-times, small-fits, few-fit, kept}
+use Rattle.cells.specs.Voltage.{negative, volts_of}
+use Rattle.cells.proofs.Scaled.{times_below, size_times, small_fits, few_fit, kept}
 
-in-float : (z : ℤ) → nat_abs z ≤ 2 ^ 24 → T (in_float binary32 z)
+in_float_lem : (z : ℤ) → nat_abs z ≤ 2 ^ 24 → T (in_float binary32 z)
 unfolding in_float
-in-float (pos n) h = le→leb n (2 ^ 24) h
-in-float (negsuc n) h = lt→ltb n (2 ^ 24) h
+in_float_lem (pos n) h = le→leb n (2 ^ 24) h
+in_float_lem (negsuc n) h = lt→ltb n (2 ^ 24) h
 
 whole : (z : ℤ) → nat_abs z ≤ 2 ^ 24 → HasValue (of_int binary32 z) (negative z) (nat_abs z) 1
 unfolding of_int
@@ -50,26 +50,26 @@ sign_kept (negsuc n) (negsuc j) t some same plus = ap (unlike false) (sym same)
 -- d times a factor of 5 or of -5, in its word
 module _ (d : ℤ) (few : nat_abs d < 16384) (k : ℤ) (five : nat_abs k ≡ 5) where
   size : nat_abs (d *ℤ k) ≡ nat_abs d * 5
-  size = size-times d k ∙ ap (λ (x : ℕ). nat_abs d * x) five
+  size = size_times d k ∙ ap (λ (x : ℕ). nat_abs d * x) five
 
   fits : SFits w32 (d *ℤ k)
-  fits = small-fits (d *ℤ k) (omega (arith, size))
+  fits = small_fits (d *ℤ k) (omega (arith, size))
 
   times : to_z w32 (of_z w32 d) *ℤ k ≡ d *ℤ k
-  times = ap (λ (z : ℤ). z *ℤ k) (kept d d refl (few-fit d few))
+  times = ap (λ (z : ℤ). z *ℤ k) (kept d d refl (few_fit d few))
 
   word : to_z w32 (of_z w32 (to_z w32 (of_z w32 d) *ℤ k)) ≡ d *ℤ k
   word = kept (to_z w32 (of_z w32 d) *ℤ k) (d *ℤ k) times fits
 
-  pub product-fits : SFits w32 (to_z w32 (of_z w32 d) *ℤ k)
-  product-fits = subst (SFits w32) (sym times) fits
+  pub product_fits : SFits w32 (to_z w32 (of_z w32 d) *ℤ k)
+  product_fits = subst (SFits w32) (sym times) fits
 
-  pub product-in-float : T (in_float binary32 (to_z w32 (of_z w32 (to_z w32 (of_z w32 d) *ℤ k))))
-  product-in-float = subst (λ (z : ℤ). T (in_float binary32 z)) (sym word) (in-float (d *ℤ k) (omega (arith, size)))
+  pub product_in_float : T (in_float binary32 (to_z w32 (of_z w32 (to_z w32 (of_z w32 d) *ℤ k))))
+  product_in_float = subst (λ (z : ℤ). T (in_float binary32 z)) (sym word) (in_float_lem (d *ℤ k) (omega (arith, size)))
 
   pub quotient : (t : Bool) → negative k ≡ t → unlike (negative (pos 0 *ℤ k)) t ≡ false
-      → div binary32 (of_int binary32 (to_z w32 (of_z w32 (to_z w32 (of_z w32 d) *ℤ k)))) (fin t 1 (pos 14)) ≡ voltsOf d
-  unfolding voltsOf
+      → div binary32 (of_int binary32 (to_z w32 (of_z w32 (to_z w32 (of_z w32 d) *ℤ k)))) (fin t 1 (pos 14)) ≡ volts_of d
+  unfolding volts_of
   quotient t same plus =
       ap (λ (z : ℤ). div binary32 (of_int binary32 z) (fin t 1 (pos 14))) word
       ∙ over (negative (d *ℤ k)) t (nat_abs (d *ℤ k)) (of_int binary32 (d *ℤ k)) (whole (d *ℤ k) (omega (arith, size)))

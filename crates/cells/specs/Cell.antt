@@ -1,6 +1,6 @@
 -- One cell (document 01, "Cells"): CHANNEL comes first, then "not measured", then LOW BITS.
 use Rattle.std.specs.Prelude.{Bool, false, cond, ◌&&◌, ℕ, zero, suc, ◌+◌, ◌/◌, ◌%◌, ◌^◌, List, [], ◌∷◌, eqb, leb}
-use Rattle.cells.specs.Voltage.{voltageOf}
+use Rattle.cells.specs.Voltage.{voltage_of}
 use Rattle.cells.specs.declared.Register.{Register}
 use Rattle.cells.specs.declared.Range.{Range}
 use Rattle.cells.specs.declared.Cell.{Cell}
@@ -18,24 +18,24 @@ unfoldable pub cell_of : Range → (mask c register : ℕ) → Cell
 cell_of range mask c register =
     cond (leb 1 c && leb c 12)
     (cond (enabled mask c)
-    (cond (eqb (register % 4) 0) (Measured (voltageOf range (register / 4))) (Refused LowBits))
+    (cond (eqb (register % 4) 0) (Measured (voltage_of range (register / 4))) (Refused LowBits))
     NotMeasured)
     (Refused Channel)
 
 -- A cell for each register, the first register being cell 1's.
-abbrev pub cellsFrom : Range → (mask c : ℕ) → List Register → List Cell
-cellsFrom range mask c [] = []
-cellsFrom range mask c (register ∷ registers) = cell_of range mask c register.0 ∷ cellsFrom range mask (c + 1) registers
+abbrev pub cells_from : Range → (mask c : ℕ) → List Register → List Cell
+cells_from range mask c [] = []
+cells_from range mask c (register ∷ registers) = cell_of range mask c register.0 ∷ cells_from range mask (c + 1) registers
 
 unfoldable pub cells_of : Range → (mask : ℕ) → List Register → List Cell
-cells_of range mask registers = cellsFrom range mask 1 registers
+cells_of range mask registers = cells_from range mask 1 registers
 
 -- The paper's numbers ("Turned away"), 0 where nothing is turned away.
-abbrev pub cellRefusalNumber : CellRefusal → ℕ
-cellRefusalNumber Channel = 12
-cellRefusalNumber LowBits = 13
+abbrev pub cell_refusal_number : CellRefusal → ℕ
+cell_refusal_number Channel = 12
+cell_refusal_number LowBits = 13
 
-abbrev pub cellNumber : Cell → ℕ
-cellNumber (Measured v) = 0
-cellNumber NotMeasured = 0
-cellNumber (Refused why) = cellRefusalNumber why
+abbrev pub cell_number : Cell → ℕ
+cell_number (Measured v) = 0
+cell_number NotMeasured = 0
+cell_number (Refused why) = cell_refusal_number why

@@ -13,12 +13,12 @@ steps_of Unipolar m = pos m
 steps_of Bipolar m = sub_ℕ m 8192
 
 -- d steps in microvolts: d * 78125 / 256, nearest, a half going away from zero
-abbrev pub nearestMicrovolts : ℕ → ℕ
-nearestMicrovolts d = (d * 78125 + 128) / 256
+abbrev pub nearest_microvolts : ℕ → ℕ
+nearest_microvolts d = (d * 78125 + 128) / 256
 
-unfoldable pub microvoltsOf : ℤ → ℤ
-microvoltsOf (pos d) = pos (nearestMicrovolts d)
-microvoltsOf (negsuc d) = neg_ℤ (pos (nearestMicrovolts (suc d)))
+unfoldable pub microvolts_of : ℤ → ℤ
+microvolts_of (pos d) = pos (nearest_microvolts d)
+microvolts_of (negsuc d) = neg_ℤ (pos (nearest_microvolts (suc d)))
 
 -- below 0 V, and 0 V is not
 abbrev pub negative : ℤ → Bool
@@ -26,8 +26,8 @@ negative (pos d) = false
 negative (negsuc d) = true
 
 -- d steps in volts, d * 5 / 16384, in single precision; that nothing is rounded away is a law
-unfoldable pub voltsOf : ℤ → Float
-voltsOf d = round binary32 (negative d) (nat_abs d * 5) 16384
+unfoldable pub volts_of : ℤ → Float
+volts_of d = round binary32 (negative d) (nat_abs d * 5) 16384
 
-abbrev pub voltageOf : Range → ℕ → Voltage
-voltageOf range m = record { microvolts = microvoltsOf (steps_of range m); volts = voltsOf (steps_of range m) }
+abbrev pub voltage_of : Range → ℕ → Voltage
+voltage_of range m = record { microvolts = microvolts_of (steps_of range m); volts = volts_of (steps_of range m) }

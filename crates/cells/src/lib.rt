@@ -1,6 +1,6 @@
 // Cell codes turned into volts (document 01, "Cells"; data sheet 004, "Input Range").
 ghost use Rattle.std.specs.Prelude.{◌≡◌, ◌<◌, ◌≤◌, nat_abs};
-ghost use Rattle.cells.specs.Voltage.{steps_of, microvoltsOf, voltsOf, voltageOf};
+ghost use Rattle.cells.specs.Voltage.{steps_of, microvolts_of, volts_of, voltage_of};
 ghost use Rattle.cells.specs.Cell.{enabled, cell_of};
 
 // A register's sixteen bits, and a measurement's fourteen: not to be mistaken for one another.
@@ -53,7 +53,7 @@ fn steps(range: Range, code: Code) -> i32
 // d steps in whole microvolts; the division cuts towards zero, so half a divisor is added away from it.
 fn microvolts(d: i32) -> i32
     requires { nat_abs d < 16384 }
-    ensures { result ≡ microvoltsOf d }
+    ensures { result ≡ microvolts_of d }
 {
     let scaled = d * 78125;
     if d < 0 {
@@ -66,14 +66,14 @@ fn microvolts(d: i32) -> i32
 // d steps in volts: d * 5 is small enough to be exact, and the divisor is a power of two.
 fn volts(d: i32) -> f32
     requires { nat_abs d < 16384 }
-    ensures { result ≡ voltsOf d }
+    ensures { result ≡ volts_of d }
 {
     (d * 5) as f32 / 16384.0
 }
 
 fn voltage_of(range: Range, code: Code) -> Voltage
     requires { code.0 < 16384 }
-    ensures { result ≡ voltageOf range code.0 }
+    ensures { result ≡ voltage_of range code.0 }
 {
     let d = steps(range, code);
     Voltage {

@@ -4,8 +4,8 @@ use mathlib.Core.Path.{sym, ◌∙◌}
 use Rattle.ground.specs.Agree.{Settled, SettledIn}
 use Rattle.certificate.proofs.certify.Reads as certify
 
-pub certify-settled : Settled certify.Post
-certify-settled l given r r' left left' p q = p.says ∙ sym q.says
+pub certify_settled : Settled certify.Post
+certify_settled l given r r' left left' p q = p.says ∙ sym q.says
 
-pub certify-settled-text : SettledIn (λ l left. left.1.0.now) certify.Post
-certify-settled-text l given r r' left left' p q = p.leaves ∙ sym q.leaves
+pub certify_settled_text : SettledIn (λ l left. left.1.0.now) certify.Post
+certify_settled_text l given r r' left left' p q = p.leaves ∙ sym q.leaves

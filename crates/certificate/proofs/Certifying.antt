@@ -7,67 +7,67 @@ use native.Mathlib.Omega.{arith}
 use lib.Dec.{leb}
 use lib.ListN.{length, drop, length-drop, length-map}
 use borrow.Author.Tests.{le-leb}
-use Rattle.lines.specs.Write.{atFront, leftBy}
+use Rattle.lines.specs.Write.{at_front, left_by}
 use Rattle.jobs.specs.declared.Header.{Header}
-use Rattle.jobs.specs.Format.{headSize}
-use Rattle.jobs.specs.Check.{entriesIn, goodFile, headerIn}
-use Rattle.jobs.proofs.Sizes.{head-bounds}
-use Rattle.jobs.proofs.Entries.{few-entries, parts}
-use Rattle.listening.specs.Listening.{heardOf, numberFor}
-use Rattle.printing.specs.Text.{certificateText}
-use Rattle.printing.specs.Print.{mostEntries, printedOf, printedNumber, PrintDone}
+use Rattle.jobs.specs.Format.{head_size}
+use Rattle.jobs.specs.Check.{entries_in, good_file, header_in}
+use Rattle.jobs.proofs.Sizes.{head_bounds}
+use Rattle.jobs.proofs.Entries.{few_entries, parts}
+use Rattle.listening.specs.Listening.{heard_of, number_for}
+use Rattle.printing.specs.Text.{certificate_text}
+use Rattle.printing.specs.Print.{most_entries, printed_of, printed_number, PrintDone}
 use Rattle.printing.specs.declared.Printed.{Printed}
 use Rattle.printing.specs.declared.Printed.TheVariants as printed
 use Rattle.certificate.specs.declared.Certified.{Certified}
 use Rattle.certificate.specs.declared.Certified.TheVariants.{Bytes, File, Room}
-use Rattle.certificate.specs.Certificate.{heardIn, numbersOf, standingOf, certificateOf, certifiedOf, certifiedNumber, CertificateDone}
-use Rattle.certificate.specs.Telling.{certifiedAs}
+use Rattle.certificate.specs.Certificate.{heard_in, numbers_of, standing_of, certificate_of, certified_of, certified_number, CertificateDone}
+use Rattle.certificate.specs.Telling.{certified_as}
 
-pub turned-away : (file text : List ℕ) → goodFile file ≡ false → CertificateDone file text text File
-unfolding certifiedOf
-turned-away file text bad =
-    let says : File ≡ certifiedOf file text = simp bad in
-    record { says = says; leaves = ap (λ (r : Certified). leftBy (certifiedNumber r) (atFront (certificateOf file) text) text) says }
+pub turned_away : (file text : List ℕ) → good_file file ≡ false → CertificateDone file text text File
+unfolding certified_of
+turned_away file text bad =
+    let says : File ≡ certified_of file text = simp bad in
+    record { says = says; leaves = ap (λ (r : Certified). left_by (certified_number r) (at_front (certificate_of file) text) text) says }
 
 -- a good file has no more entries than can be printed
-pub countable : (file : List ℕ) → goodFile file ≡ true → length (numbersOf (heardIn file)) ≤ mostEntries
+pub countable : (file : List ℕ) → good_file file ≡ true → length (numbers_of (heard_in file)) ≤ most_entries
 countable file ok =
-    let entries = entriesIn (headerIn file).version (drop headSize file) in
+    let entries = entries_in (header_in file).version (drop head_size file) in
     let p = parts file ok in
     omega (
       arith,
-      length-map (heardIn file) numberFor,
-      length-map entries (heardOf (headerIn file)),
-      few-entries (headerIn file) (drop headSize file) p.entries,
-      length-drop headSize file,
+      length-map (heard_in file) number_for,
+      length-map entries (heard_of (header_in file)),
+      few_entries (header_in file) (drop head_size file) p.entries,
+      length-drop head_size file,
       p.size,
       p.long,
-      head-bounds.0,
+      head_bounds.0,
     )
 
-pub certified : (h : Header) (file text text' : List ℕ) (r : Printed) → goodFile file ≡ true → h ≡ headerIn file
-    → PrintDone h.version h.n (numbersOf (heardIn file)) (standingOf file) text text' r → CertificateDone file text text' (certifiedAs r)
-unfolding certifiedOf certificateOf printedOf
+pub certified : (h : Header) (file text text' : List ℕ) (r : Printed) → good_file file ≡ true → h ≡ header_in file
+    → PrintDone h.version h.n (numbers_of (heard_in file)) (standing_of file) text text' r → CertificateDone file text text' (certified_as r)
+unfolding certified_of certificate_of printed_of
 certified h file text text' r ok is done =
-    let numbers = numbersOf (heardIn file) in
-    let few = le-leb (length numbers) mostEntries (countable file ok) in
-    let done' = subst (λ (x : Header). PrintDone x.version x.n numbers (standingOf file) text text' r) is done in
-    let cert = certificateText (headerIn file).version (headerIn file).n numbers (standingOf file) in
+    let numbers = numbers_of (heard_in file) in
+    let few = le-leb (length numbers) most_entries (countable file ok) in
+    let done' = subst (λ (x : Header). PrintDone x.version x.n numbers (standing_of file) text text' r) is done in
+    let cert = certificate_text (header_in file).version (header_in file).n numbers (standing_of file) in
     let fits = leb (length cert) (length text) in
-    let answer = printedOf (headerIn file).version (headerIn file).n numbers (standingOf file) text in
-    let said : certifiedAs answer ≡ certifiedOf file text =
-    ap (λ (t : Bool). certifiedAs (cond t (cond fits (printed.Bytes (length cert)) printed.Room) printed.Many)) few
+    let answer = printed_of (header_in file).version (header_in file).n numbers (standing_of file) text in
+    let said : certified_as answer ≡ certified_of file text =
+    ap (λ (t : Bool). certified_as (cond t (cond fits (printed.Bytes (length cert)) printed.Room) printed.Many)) few
     ∙ either fits (length cert) ∙ sym (ap (λ (t : Bool). cond t (cond fits (Bytes (length cert)) Room) File) ok) in
     record {
-      says = ap certifiedAs done'.says ∙ said;
-      leaves = done'.leaves ∙ ap (λ (k : ℕ). leftBy k (atFront cert text) text) (sym (same_number answer) ∙ ap certifiedNumber said);
+      says = ap certified_as done'.says ∙ said;
+      leaves = done'.leaves ∙ ap (λ (k : ℕ). left_by k (at_front cert text) text) (sym (same_number answer) ∙ ap certified_number said);
     }
   where
-    either : (t : Bool) (n : ℕ) → certifiedAs (cond t (printed.Bytes n) printed.Room) ≡ cond t (Bytes n) Room
+    either : (t : Bool) (n : ℕ) → certified_as (cond t (printed.Bytes n) printed.Room) ≡ cond t (Bytes n) Room
     either true n = refl
     either false n = refl
 
-    same_number : (p : Printed) → certifiedNumber (certifiedAs p) ≡ printedNumber p
+    same_number : (p : Printed) → certified_number (certified_as p) ≡ printed_number p
     same_number (printed.Bytes n) = refl
     same_number printed.Many = refl
     same_number printed.Room = refl

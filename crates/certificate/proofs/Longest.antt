@@ -6,20 +6,20 @@ use mathlib.Core.List.{List, [], ◌∷◌}
 use Prim.Native.Nat.{ℕ, zero, suc, ◌≤◌, ◌<◌}
 use native.Mathlib.Omega.{arith}
 use lib.ListN.{length, get_or}
-use Rattle.readings.specs.Reading.{refusalNumber, number_of}
+use Rattle.readings.specs.Reading.{refusal_number, number_of}
 use Rattle.readings.specs.declared.Refusal.{Refusal}
 use Rattle.readings.specs.declared.Refusal.TheVariants.{Question, Room, Length, Character, Frame, Manchester, Echo, Pec, Alive, Check, Count}
 use Rattle.readings.specs.declared.Reading.{Reading}
 use Rattle.readings.specs.declared.Reading.TheVariants.{Counted, Written, Values, Refused}
-use Rattle.jobs.specs.Check.{headerIn, goodFile}
-use Rattle.jobs.proofs.Entries.{parts, header-version, header-most}
+use Rattle.jobs.specs.Check.{header_in, good_file}
+use Rattle.jobs.proofs.Entries.{parts, header_version, header_most}
 use Rattle.letters.specs.Letters.{Heard}
 use Rattle.printing.proofs.Lengths.{longest}
 use Rattle.certificate.specs.declared.Certified.{Certified}
 use Rattle.certificate.specs.declared.Certified.TheVariants.{Bytes}
-use Rattle.certificate.specs.Certificate.{heardIn, numbersOf, standingOf, certificateOf, certifiedOf, mostText}
+use Rattle.certificate.specs.Certificate.{heard_in, numbers_of, standing_of, certificate_of, certified_of, most_text}
 use Rattle.certificate.proofs.Certifying.{countable}
-use Rattle.certificate.proofs.Answered.{Answered, no-job, no_room, all, answered}
+use Rattle.certificate.proofs.Answered.{Answered, no_job, no_room, all, answered}
 
 -- no number of the table is above 99
 number_small : (r : Reading) → number_of r < 100
@@ -28,7 +28,7 @@ number_small Written = omega arith
 number_small (Values m) = omega arith
 number_small (Refused why) = row why
   where
-    row : (why : Refusal) → refusalNumber why < 100
+    row : (why : Refusal) → refusal_number why < 100
     row Question = omega arith
     row Room = omega arith
     row Length = omega arith
@@ -41,29 +41,29 @@ number_small (Refused why) = row why
     row (Check b) = omega arith
     row (Count b) = omega arith
 
-numbers-small : (es : List Heard) (k : ℕ) → get_or (numbersOf es) k 0 < 100
-numbers-small [] k = omega arith
-numbers-small (e ∷ es) zero = number_small e.reading
-numbers-small (e ∷ es) (suc k) = numbers-small es k
+numbers_small : (es : List Heard) (k : ℕ) → get_or (numbers_of es) k 0 < 100
+numbers_small [] k = omega arith
+numbers_small (e ∷ es) zero = number_small e.reading
+numbers_small (e ∷ es) (suc k) = numbers_small es k
 
-pub fits-every-certificate : (file : List ℕ) → goodFile file ≡ true → length (certificateOf file) ≤ mostText
-unfolding certificateOf
-fits-every-certificate file ok =
-    longest (headerIn file).version (headerIn file).n (numbersOf (heardIn file)) (standingOf file)
-    (omega (arith, header-version (headerIn file) (parts file ok).header)) (omega (arith, header-most (headerIn file) (parts file ok).header))
-    (countable file ok) (numbers-small (heardIn file))
+pub fits_every_certificate : (file : List ℕ) → good_file file ≡ true → length (certificate_of file) ≤ most_text
+unfolding certificate_of
+fits_every_certificate file ok =
+    longest (header_in file).version (header_in file).n (numbers_of (heard_in file)) (standing_of file)
+    (omega (arith, header_version (header_in file) (parts file ok).header)) (omega (arith, header_most (header_in file) (parts file ok).header))
+    (countable file ok) (numbers_small (heard_in file))
 
 -- what is written: a good file's certificate, within the lent memory
 pub record WrittenOut (file text : List ℕ) (n : ℕ) : Type 0 where
   pub within : n ≤ length text
-  pub most : n ≤ mostText
+  pub most : n ≤ most_text
 
-pub written : (file text : List ℕ) (n : ℕ) → certifiedOf file text ≡ Bytes n → WrittenOut file text n
-written file text n says = by_answer (certifiedOf file text) (answered file text) says
+pub written : (file text : List ℕ) (n : ℕ) → certified_of file text ≡ Bytes n → WrittenOut file text n
+written file text n says = by_answer (certified_of file text) (answered file text) says
   where
     by_answer : (r : Certified) → Answered file text r → r ≡ Bytes n → WrittenOut file text n
     by_answer _ (all ok fits) e =
-        let is : length (certificateOf file) ≡ n = cc in
-        record { within = omega (arith, is, fits); most = omega (arith, is, fits-every-certificate file ok) }
+        let is : length (certificate_of file) ≡ n = cc in
+        record { within = omega (arith, is, fits); most = omega (arith, is, fits_every_certificate file ok) }
     by_answer _ (no_room ok over) e = let z : ◌≡◌ {A = ℕ} 0 1 = cc in absurd (omega arith)
-    by_answer _ (no-job bad) e = let z : ◌≡◌ {A = ℕ} 0 1 = cc in absurd (omega arith)
+    by_answer _ (no_job bad) e = let z : ◌≡◌ {A = ℕ} 0 1 = cc in absurd (omega arith)

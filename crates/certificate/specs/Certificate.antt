@@ -1,52 +1,52 @@
 -- The certificate of a job file (document 01, "Job file and certificate"; document 02, M-100): FILE, then ROOM, else exactly its text at the front
 -- of the lent memory, the rest as it was.
 use Rattle.std.specs.Prelude.{◌≡◌, cond, List, map, ℕ, leb, length, drop}
-use Rattle.lines.specs.Write.{atFront, leftBy}
-use Rattle.jobs.specs.Format.{headSize}
-use Rattle.jobs.specs.Check.{headerIn, entriesIn, goodFile}
+use Rattle.lines.specs.Write.{at_front, left_by}
+use Rattle.jobs.specs.Format.{head_size}
+use Rattle.jobs.specs.Check.{header_in, entries_in, good_file}
 use Rattle.letters.specs.declared.Standing.{Standing}
-use Rattle.letters.specs.Letters.{Heard, standingAfter}
-use Rattle.listening.specs.Listening.{heardOf, numberFor}
-use Rattle.printing.specs.Text.{certificateText}
+use Rattle.letters.specs.Letters.{Heard, standing_after}
+use Rattle.listening.specs.Listening.{heard_of, number_for}
+use Rattle.printing.specs.Text.{certificate_text}
 use Rattle.certificate.specs.declared.Certified.{Certified}
 use Rattle.certificate.specs.declared.Certified.TheVariants.{Bytes, File, Room}
 
 -- the entries of a file heard, in their order
-abbrev pub heardIn : (file : List ℕ) → List Heard
-heardIn file = map (heardOf (headerIn file)) (entriesIn (headerIn file).version (drop headSize file))
+abbrev pub heard_in : (file : List ℕ) → List Heard
+heard_in file = map (heard_of (header_in file)) (entries_in (header_in file).version (drop head_size file))
 
 -- the number of each entry: 0 for accepted
-abbrev pub numbersOf : List Heard → List ℕ
-numbersOf es = map numberFor es
+abbrev pub numbers_of : List Heard → List ℕ
+numbers_of es = map number_for es
 
 -- the last good write and the letters, after all entries
-abbrev pub standingOf : (file : List ℕ) → Standing
-standingOf file = standingAfter (heardIn file)
+abbrev pub standing_of : (file : List ℕ) → Standing
+standing_of file = standing_after (heard_in file)
 
 -- the text
-unfoldable pub certificateOf : (file : List ℕ) → List ℕ
-certificateOf file = certificateText (headerIn file).version (headerIn file).n (numbersOf (heardIn file)) (standingOf file)
+unfoldable pub certificate_of : (file : List ℕ) → List ℕ
+certificate_of file = certificate_text (header_in file).version (header_in file).n (numbers_of (heard_in file)) (standing_of file)
 
 -- the answer: FILE, then ROOM
-unfoldable pub certifiedOf : (file text : List ℕ) → Certified
-certifiedOf file text =
-    cond (goodFile file) (cond (leb (length (certificateOf file)) (length text)) (Bytes (length (certificateOf file))) Room) File
+unfoldable pub certified_of : (file text : List ℕ) → Certified
+certified_of file text =
+    cond (good_file file) (cond (leb (length (certificate_of file)) (length text)) (Bytes (length (certificate_of file))) Room) File
 
 -- document 01's number of an answer
-abbrev pub certifiedNumber : Certified → ℕ
-certifiedNumber (Bytes n) = 0
-certifiedNumber File = 14
-certifiedNumber Room = 2
+abbrev pub certified_number : Certified → ℕ
+certified_number (Bytes n) = 0
+certified_number File = 14
+certified_number Room = 2
 
 -- the lent memory after the call
-abbrev pub textLeft : (file before : List ℕ) → List ℕ
-textLeft file before = leftBy (certifiedNumber (certifiedOf file before)) (atFront (certificateOf file) before) before
+abbrev pub text_left : (file before : List ℕ) → List ℕ
+text_left file before = left_by (certified_number (certified_of file before)) (at_front (certificate_of file) before) before
 
 -- what `certify` says and leaves
 pub record CertificateDone (file before after : List ℕ) (r : Certified) : Type 0 where
-  pub says : r ≡ certifiedOf file before
-  pub leaves : after ≡ textLeft file before
+  pub says : r ≡ certified_of file before
+  pub leaves : after ≡ text_left file before
 
 -- memory of this size holds every certificate: 9 bytes for the first line, 10 for each of 8,191 entries, 7 for each of 32 devices
-abbrev pub mostText : ℕ
-mostText = 82143
+abbrev pub most_text : ℕ
+most_text = 82143

@@ -3,10 +3,10 @@
 mod entries;
 
 ghost use Rattle.std.specs.Prelude.{◌≡◌, true, length};
-ghost use Rattle.jobs.specs.Check.{goodFile, headerIn};
-ghost use Rattle.printing.specs.Print.{mostEntries, PrintDone};
-ghost use Rattle.certificate.specs.Certificate.{numbersOf, heardIn, standingOf, CertificateDone};
-ghost use Rattle.certificate.specs.Telling.{certifiedAs};
+ghost use Rattle.jobs.specs.Check.{good_file, header_in};
+ghost use Rattle.printing.specs.Print.{most_entries, PrintDone};
+ghost use Rattle.certificate.specs.Certificate.{numbers_of, heard_in, standing_of, CertificateDone};
+ghost use Rattle.certificate.specs.Telling.{certified_as};
 
 use entries::tell;
 use jobs::{Header, Opened};
@@ -46,7 +46,7 @@ pub fn certify(file: &[u8], text: &mut [u8]) -> Certified
 
 // No job file has too many entries to print.
 fn as_certified(printed: Printed) -> Certified
-    ensures { result ≡ certifiedAs printed }
+    ensures { result ≡ certified_as printed }
 {
     match printed {
         Printed::Bytes(n) => Certified::Bytes(n),
@@ -56,8 +56,8 @@ fn as_certified(printed: Printed) -> Certified
 }
 
 fn print_told(header: Header, file: &[u8], text: &mut [u8]) -> Printed
-    requires { (goodFile file.now ≡ true) × (header ≡ headerIn file.now) }
-    ensures { PrintDone header.version header.n (numbersOf (heardIn file.now)) (standingOf file.now) text.old text.new result }
+    requires { (good_file file.now ≡ true) × (header ≡ header_in file.now) }
+    ensures { PrintDone header.version header.n (numbers_of (heard_in file.now)) (standing_of file.now) text.old text.new result }
 {
     let mut numbers = blank_numbers();
     let told = tell(header, file, &mut numbers);
@@ -74,7 +74,7 @@ fn print_told(header: Header, file: &[u8], text: &mut [u8]) -> Printed
 
 // A number for each entry.
 fn blank_numbers() -> [u8; MOST_ENTRIES]
-    ensures { length result ≡ mostEntries }
+    ensures { length result ≡ most_entries }
 {
     [0; MOST_ENTRIES]
 }

@@ -1,14 +1,14 @@
 // The certificate program: a job file on standard input, its certificate on standard output, or `R 14` alone where it is no job file. An
 // input longer than a job file may be, and one that cannot be read to its end, are none.
 ghost use Rattle.std.specs.Prelude.{◌≡◌, length};
-ghost use Rattle.certificate.specs.Certificate.{mostText};
+ghost use Rattle.certificate.specs.Certificate.{most_text};
 
 use certificate::{Certified, MOST_TEXT, certify};
 use intake::{job_memory, put_out, take_in};
 
 // Every certificate fits.
 fn text_memory() -> [u8; MOST_TEXT]
-    ensures { mostText ≡ length result }
+    ensures { most_text ≡ length result }
 {
     [0; MOST_TEXT]
 }

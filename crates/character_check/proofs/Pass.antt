@@ -5,30 +5,30 @@ use Prim.Native.Nat.{ℕ, ◌<◌}
 use Rattle.ground.specs.Sweep.{every}
 use Rattle.ground.proofs.Sweep.{swept}
 use Rattle.characters.specs.Character.{word_of, preamble, stop}
-use Rattle.characters.specs.Nibble.{nibbleWord, trueBits, isNibble}
-use Rattle.characters.proofs.Nibble.{nibble-word, true-bits-lt}
-use Rattle.character_check.specs.Check.{isCharacter}
+use Rattle.characters.specs.Nibble.{nibble_word, true_bits, is_nibble}
+use Rattle.characters.proofs.Nibble.{nibble_word_lem, true_bits_lt}
+use Rattle.character_check.specs.Check.{is_character}
 
-pub preamble-character : isCharacter preamble ≡ true
-unfolding isCharacter
-preamble-character = refl
+pub preamble_character : is_character preamble ≡ true
+unfolding is_character
+preamble_character = refl
 
-pub stop-character : isCharacter stop ≡ true
-unfolding isCharacter
-stop-character = refl
+pub stop_character : is_character stop ≡ true
+unfolding is_character
+stop_character = refl
 
 -- one test of the sixteen nibbles
-nibble-passes : ℕ → Bool
-nibble-passes n = isCharacter (nibbleWord n)
+nibble_passes : ℕ → Bool
+nibble_passes n = is_character (nibble_word n)
 
-all_pass : every nibble-passes 16 ≡ true
-unfolding nibble-passes nibbleWord word_of isCharacter
+all_pass : every nibble_passes 16 ≡ true
+unfolding nibble_passes nibble_word word_of is_character
 all_pass = refl
 
-pub nibble-character : (n : ℕ) → n < 16 → isCharacter (nibbleWord n) ≡ true
-unfolding nibble-passes
-nibble-character n h = swept nibble-passes 16 all_pass n h
+pub nibble_character : (n : ℕ) → n < 16 → is_character (nibble_word n) ≡ true
+unfolding nibble_passes
+nibble_character n h = swept nibble_passes 16 all_pass n h
 
 -- a word that is a nibble's is a character
-pub nibble-is-character : (w : ℕ) → isNibble w ≡ true → isCharacter w ≡ true
-nibble-is-character w e = ap isCharacter (nibble-word w e) ∙ nibble-character (trueBits w) (true-bits-lt w)
+pub nibble_is_character : (w : ℕ) → is_nibble w ≡ true → is_character w ≡ true
+nibble_is_character w e = ap is_character (nibble_word_lem w e) ∙ nibble_character (true_bits w) (true_bits_lt w)

@@ -3,8 +3,8 @@ use Rattle.std.specs.Prelude.{Bool, ◌&&◌, ℕ, ◌+◌, ◌/◌, ◌%◌, �
 use Rattle.characters.specs.Character.{bit}
 
 -- Bits 12 to 15 are 0.
-abbrev pub highBitsClear : ℕ → Bool
-highBitsClear w = eqb (w / 2 ^ 12) 0
+abbrev pub high_bits_clear : ℕ → Bool
+high_bits_clear w = eqb (w / 2 ^ 12) 0
 
 -- the start bit (0)
 abbrev pub started : ℕ → Bool
@@ -15,12 +15,12 @@ abbrev pub stopped : ℕ → Bool
 stopped w = eqb (bit 10 w) 1 && eqb (bit 11 w) 1
 
 -- even parity over data and parity bit
-abbrev pub evenParity : ℕ → Bool
-evenParity w =
+abbrev pub even_parity : ℕ → Bool
+even_parity w =
     eqb
     ((bit 1 w + bit 2 w + bit 3 w + bit 4 w + bit 5 w + bit 6 w + bit 7 w + bit 8 w + bit 9 w) % 2)
     0
 
 -- row 4, CHARACTER, is given where this is false
-unfoldable pub isCharacter : ℕ → Bool
-isCharacter w = highBitsClear w && started w && stopped w && evenParity w
+unfoldable pub is_character : ℕ → Bool
+is_character w = high_bits_clear w && started w && stopped w && even_parity w

@@ -1,6 +1,6 @@
 -- Which of the four checks of a character a word fails first (document 02, M-102).
 use Rattle.std.specs.Prelude.{Bool, true, false, ℕ}
-use Rattle.character_check.specs.Check.{highBitsClear, started, stopped, evenParity}
+use Rattle.character_check.specs.Check.{high_bits_clear, started, stopped, even_parity}
 use Rattle.character_check.specs.declared.Fault.{Fault}
 use Rattle.character_check.specs.declared.Fault.TheVariants.{HighBits, Start, Stop, Parity}
 use Rattle.character_check.specs.declared.Checked.{Checked}
@@ -12,9 +12,9 @@ unless true fault later = later
 unless false fault later = Faulty fault
 
 -- the check: high bits, start, stop, parity, the first in that order
-unfoldable pub checkedOf : ℕ → Checked
-checkedOf w =
-    unless (highBitsClear w) HighBits
+unfoldable pub checked_of : ℕ → Checked
+checked_of w =
+    unless (high_bits_clear w) HighBits
     (unless (started w) Start
     (unless (stopped w) Stop
-    (unless (evenParity w) Parity Sound)))
+    (unless (even_parity w) Parity Sound)))

@@ -1,12 +1,12 @@
 // Whether a word is a character at all: row 4 of document 01's "Turned away", of one word.
 ghost use Rattle.std.specs.Prelude.{◌≡◌};
-ghost use Rattle.character_check.specs.Check.{isCharacter};
-ghost use Rattle.character_check.specs.Fault.{checkedOf};
+ghost use Rattle.character_check.specs.Check.{is_character};
+ghost use Rattle.character_check.specs.Fault.{checked_of};
 
 // The check of one character: high bits, start and stops, parity. Start and stops are an even number of set bits, so that parity is even over
 // the whole word where it is even over data and parity bit.
 pub fn is_character(w: u16) -> bool
-    ensures { result ≡ isCharacter w }
+    ensures { result ≡ is_character w }
 {
     if w & 0xFC01 != 0xC00 {
         return false;
@@ -33,7 +33,7 @@ pub enum Checked {
 
 // Which fault of a character a word has first. Where parity is looked at, start and stops are an even number of set bits.
 pub fn check(w: u16) -> Checked
-    ensures { result ≡ checkedOf w }
+    ensures { result ≡ checked_of w }
 {
     if w / 4096 != 0 {
         return Checked::Faulty(Fault::HighBits);

@@ -2,14 +2,14 @@
 use mathlib.Core.Path.{sym, ◌∙◌}
 use Rattle.ground.specs.Agree.{Settled}
 use Rattle.characters.proofs.word_of.Reads as word_of
-use Rattle.characters.proofs.true_bits.Reads as true-bits
-use Rattle.characters.proofs.is_nibble.Reads as is-nibble
+use Rattle.characters.proofs.true_bits.Reads as true_bits
+use Rattle.characters.proofs.is_nibble.Reads as is_nibble_lem
 
-pub word-of-settled : Settled word_of.Post
-word-of-settled l given r r' left left' p q = p ∙ sym q
+pub word_of_settled : Settled word_of.Post
+word_of_settled l given r r' left left' p q = p ∙ sym q
 
-pub true-bits-settled : Settled true-bits.Post
-true-bits-settled l given r r' left left' p q = p ∙ sym q
+pub true_bits_settled : Settled true_bits.Post
+true_bits_settled l given r r' left left' p q = p ∙ sym q
 
-pub is-nibble-settled : Settled is-nibble.Post
-is-nibble-settled l given r r' left left' p q = p ∙ sym q
+pub is_nibble_settled : Settled is_nibble_lem.Post
+is_nibble_settled l given r r' left left' p q = p ∙ sym q

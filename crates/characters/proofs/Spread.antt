@@ -10,7 +10,7 @@ use borrow.Author.Tests.{eqb-true}
 use Rattle.ground.specs.Sweep.{every}
 use Rattle.ground.proofs.Sweep.{swept}
 use Rattle.characters.specs.Character.{word_of}
-use Rattle.characters.specs.Nibble.{nibbleWord, trueBits}
+use Rattle.characters.specs.Nibble.{nibble_word, true_bits}
 
 -- ---- spread: two by two, then one by one
 
@@ -20,22 +20,22 @@ pairs n = bit_and (bit_or (n % 16) (n % 16 * 4)) 0x33
 abbrev pub singles : ℕ → ℕ
 singles n = bit_and (bit_or (pairs n) (pairs n * 2)) 0x55
 
-pub few-pairs : (n : ℕ) → pairs n ≤ 0x33
-few-pairs n = and_le_r (bit_or (n % 16) (n % 16 * 4)) 0x33
+pub few_pairs : (n : ℕ) → pairs n ≤ 0x33
+few_pairs n = and_le_r (bit_or (n % 16) (n % 16 * 4)) 0x33
 
-pub few-singles : (n : ℕ) → singles n ≤ 0x55
-few-singles n = and_le_r (bit_or (pairs n) (pairs n * 2)) 0x55
+pub few_singles : (n : ℕ) → singles n ≤ 0x55
+few_singles n = and_le_r (bit_or (pairs n) (pairs n * 2)) 0x55
 
 spreads : ℕ → Bool
-spreads n = eqb (0xD54 - 2 * singles n) (nibbleWord n)
+spreads n = eqb (0xD54 - 2 * singles n) (nibble_word n)
 
-all-spread : every spreads 256 ≡ true
-unfolding spreads nibbleWord word_of
-all-spread = refl
+all_spread : every spreads 256 ≡ true
+unfolding spreads nibble_word word_of
+all_spread = refl
 
-pub spread : (n : ℕ) → n < 256 → 0xD54 - 2 * singles n ≡ nibbleWord n
+pub spread : (n : ℕ) → n < 256 → 0xD54 - 2 * singles n ≡ nibble_word n
 unfolding spreads
-spread n h = eqb-true (0xD54 - 2 * singles n) (nibbleWord n) (swept spreads 256 all-spread n h)
+spread n h = eqb-true (0xD54 - 2 * singles n) (nibble_word n) (swept spreads 256 all_spread n h)
 
 -- ---- gathered: one by one, then two by two
 
@@ -45,19 +45,19 @@ halves x = bit_and (bit_or x (x / 2)) 0x33
 abbrev gathered : ℕ → ℕ
 gathered x = bit_and (bit_or (halves x) (halves x / 4)) 0xF
 
-pub few-gathered : (x : ℕ) → gathered x ≤ 0xF
-few-gathered x = and_le_r (bit_or (halves x) (halves x / 4)) 0xF
+pub few_gathered : (x : ℕ) → gathered x ≤ 0xF
+few_gathered x = and_le_r (bit_or (halves x) (halves x / 4)) 0xF
 
 gathers : ℕ → Bool
 gathers y = eqb (gathered (bit_and y 0x55)) (y % 2 + y / 4 % 2 * 2 + y / 16 % 2 * 4 + y / 64 % 2 * 8)
 
-all-gather : every gathers 256 ≡ true
+all_gather : every gathers 256 ≡ true
 unfolding gathers
-all-gather = refl
+all_gather = refl
 
 -- the mask looks at eight bits alone
-eight-bits : (x : ℕ) → bit_and x 0x55 ≡ bit_and (x % 256) 0x55
-eight-bits x =
+eight_bits : (x : ℕ) → bit_and x 0x55 ≡ bit_and (x % 256) 0x55
+eight_bits x =
     let small : bit_and x 0x55 < 256 = omega (arith, and_le_r x 0x55) in
     sym (mod-eq_of_lt small) ∙ and_mod x 0x55 8
 
@@ -65,9 +65,9 @@ eight-bits x =
 blocks : (q y : ℕ) → ((q * 256 + y) % 2 ≡ y % 2) × ((q * 256 + y) / 4 % 2 ≡ y / 4 % 2) × ((q * 256 + y) / 16 % 2 ≡ y / 16 % 2) × ((q * 256 + y) / 64 % 2 ≡ y / 64 % 2)
 blocks q y = (omega arith, omega arith, omega arith, omega arith)
 
-data-bits : (w : ℕ)
-    → let y = w / 2 % 256 in y % 2 + y / 4 % 2 * 2 + y / 16 % 2 * 4 + y / 64 % 2 * 8 ≡ trueBits w
-data-bits w =
+data_bits : (w : ℕ)
+    → let y = w / 2 % 256 in y % 2 + y / 4 % 2 * 2 + y / 16 % 2 * 4 + y / 64 % 2 * 8 ≡ true_bits w
+data_bits w =
     let whole : w / 2 / 256 * 256 + w / 2 % 256 ≡ w / 2 = omega arith in
     let at = blocks (w / 2 / 256) (w / 2 % 256) in
     let second : w / 2 / 4 ≡ w / 8 = omega arith in
@@ -79,10 +79,10 @@ data-bits w =
     (sym at.2 ∙ ap (λ (x : ℕ). x / 16 % 2) whole ∙ ap (λ (x : ℕ). x % 2) third))
     (sym at.3 ∙ ap (λ (x : ℕ). x / 64 % 2) whole ∙ ap (λ (x : ℕ). x % 2) fourth)
 
-pub gather : (w : ℕ) → gathered (bit_and (w / 2) 0x55) ≡ trueBits w
+pub gather : (w : ℕ) → gathered (bit_and (w / 2) 0x55) ≡ true_bits w
 unfolding gathers
 gather w =
     let y = w / 2 % 256 in
-    ap gathered (eight-bits (w / 2))
-    ∙ eqb-true (gathered (bit_and y 0x55)) _ (swept gathers 256 all-gather y (mod-lt (w / 2) (zero-lt-suc 255)))
-    ∙ data-bits w
+    ap gathered (eight_bits (w / 2))
+    ∙ eqb-true (gathered (bit_and y 0x55)) _ (swept gathers 256 all_gather y (mod-lt (w / 2) (zero-lt-suc 255)))
+    ∙ data_bits w

@@ -8,12 +8,12 @@ bit zero w = w % 2
 bit (suc k) w = w / 2 ^ suc k % 2
 
 -- the parity bit of eight data bits: 1 where an odd number of them is set
-abbrev pub parityBit : ℕ → ℕ
-parityBit d = (bit 0 d + bit 1 d + bit 2 d + bit 3 d + bit 4 d + bit 5 d + bit 6 d + bit 7 d) % 2
+abbrev pub parity_bit : ℕ → ℕ
+parity_bit d = (bit 0 d + bit 1 d + bit 2 d + bit 3 d + bit 4 d + bit 5 d + bit 6 d + bit 7 d) % 2
 
 -- the word that carries eight data bits
 unfoldable pub word_of : ℕ → ℕ
-word_of d = d * 2 + parityBit d * 2 ^ 9 + 2 ^ 10 + 2 ^ 11
+word_of d = d * 2 + parity_bit d * 2 ^ 9 + 2 ^ 10 + 2 ^ 11
 
 -- Preamble: data 15h, word E2Ah. Stop character: data 54h, word EA8h.
 abbrev pub preamble : ℕ

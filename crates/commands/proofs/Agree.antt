@@ -2,11 +2,11 @@
 -- calls leave in lent memory.
 use mathlib.Core.Path.{sym, ◌∙◌}
 use Rattle.ground.specs.Agree.{Settled, SettledIn}
-use Rattle.commands.proofs.write_command.Reads as write-command
+use Rattle.commands.proofs.write_command.Reads as write_command
 
-pub write-command-settled : Settled write-command.Post
-write-command-settled l given r r' left left' p q = p.says ∙ sym q.says
+pub write_command_settled : Settled write_command.Post
+write_command_settled l given r r' left left' p q = p.says ∙ sym q.says
 
 -- the lent words
-pub write-command-settled-out : SettledIn (λ l left. left.1.0.now) write-command.Post
-write-command-settled-out l given r r' left left' p q = p.leaves ∙ sym q.leaves
+pub write_command_settled_out : SettledIn (λ l left. left.1.0.now) write_command.Post
+write_command_settled_out l given r r' left left' p q = p.leaves ∙ sym q.leaves

@@ -6,45 +6,45 @@ use Prim.Native.Nat.{ℕ}
 use lib.Dec.{leb}
 use lib.ListN.{length}
 use borrow.Author.Tests.{leb-true, leb-false}
-use Rattle.lines.specs.Write.{atFront, leftBy}
-use Rattle.writing.specs.PutLine.{put_of, putNumber, out_of, LinePut}
+use Rattle.lines.specs.Write.{at_front, left_by}
+use Rattle.writing.specs.PutLine.{put_of, put_number, out_of, LinePut}
 use Rattle.writing.specs.declared.Put.{Put}
 use Rattle.writing.specs.declared.Put.TheVariants as put
-use Rattle.questions.specs.Question.{goodQuestion}
-use Rattle.questions.specs.Bytes.{commandBytes}
-use Rattle.commands.specs.Command.{commandLine, issuedOf, issuedNumber, CommandPut, issuedAs}
+use Rattle.questions.specs.Question.{good_question}
+use Rattle.questions.specs.Bytes.{command_bytes}
+use Rattle.commands.specs.Command.{command_line, issued_of, issued_number, CommandPut, issued_as}
 use Rattle.commands.specs.declared.Issued.{Issued}
 use Rattle.commands.specs.declared.Issued.TheVariants as issued
 use Rattle.questions.specs.declared.question.Question.{Question}
-use Rattle.commands.proofs.Issuing.{issued-bad, issued-good, issued-short}
+use Rattle.commands.proofs.Issuing.{issued_bad, issued_good, issued_short}
 
-pub command-refused : (q : Question) (out : List ℕ) → goodQuestion q ≡ false → CommandPut q out out issued.Question
-command-refused q out bad =
-    let is = issued-bad q (length out) bad in
-    record { says = sym is; leaves = sym (ap (λ (i : Issued). leftBy (issuedNumber i) (atFront (commandLine q) out) out) is) }
+pub command_refused : (q : Question) (out : List ℕ) → good_question q ≡ false → CommandPut q out out issued.Question
+command_refused q out bad =
+    let is = issued_bad q (length out) bad in
+    record { says = sym is; leaves = sym (ap (λ (i : Issued). left_by (issued_number i) (at_front (command_line q) out) out) is) }
 
 -- putting the line and issuing the command have the same number
-same_number : (p : Put) → putNumber p ≡ issuedNumber (issuedAs p)
+same_number : (p : Put) → put_number p ≡ issued_number (issued_as p)
 same_number (put.Words n) = refl
 same_number put.NoRoom = refl
 
-module _ (q : Question) (out : List ℕ) (good : goodQuestion q ≡ true) where
-  same_answer : issuedAs (put_of (commandBytes q) out) ≡ issuedOf q (length out)
+module _ (q : Question) (out : List ℕ) (good : good_question q ≡ true) where
+  same_answer : issued_as (put_of (command_bytes q) out) ≡ issued_of q (length out)
   unfolding put_of
-  same_answer = by-room (leb (length (commandLine q)) (length out)) refl
+  same_answer = by_room (leb (length (command_line q)) (length out)) refl
     where
-      by-room : (t : Bool) → leb (length (commandLine q)) (length out) ≡ t
-          → issuedAs (cond t (put.Words (length (commandLine q))) put.NoRoom) ≡ issuedOf q (length out)
-      by-room true fits = sym (issued-good q (length out) good (leb-true (length (commandLine q)) (length out) fits))
-      by-room false less = sym (issued-short q (length out) good (leb-false (length (commandLine q)) (length out) less))
+      by_room : (t : Bool) → leb (length (command_line q)) (length out) ≡ t
+          → issued_as (cond t (put.Words (length (command_line q))) put.NoRoom) ≡ issued_of q (length out)
+      by_room true fits = sym (issued_good q (length out) good (leb-true (length (command_line q)) (length out) fits))
+      by_room false less = sym (issued_short q (length out) good (leb-false (length (command_line q)) (length out) less))
 
-  pub command-put : (after : List ℕ) (p : Put) (r : Issued) → LinePut (commandBytes q) out after p → r ≡ issuedAs p → CommandPut q out after r
+  pub command_put : (after : List ℕ) (p : Put) (r : Issued) → LinePut (command_bytes q) out after p → r ≡ issued_as p → CommandPut q out after r
   unfolding out_of
-  command-put after p r done s =
+  command_put after p r done s =
       record {
-        says = s ∙ ap issuedAs done.says ∙ same_answer;
+        says = s ∙ ap issued_as done.says ∙ same_answer;
         leaves =
             done.leaves
-            ∙ ap (λ (number : ℕ). leftBy number (atFront (commandLine q) out) out)
-            (same_number (put_of (commandBytes q) out) ∙ ap issuedNumber same_answer);
+            ∙ ap (λ (number : ℕ). left_by number (at_front (command_line q) out) out)
+            (same_number (put_of (command_bytes q) out) ∙ ap issued_number same_answer);
       }

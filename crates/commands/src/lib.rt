@@ -2,10 +2,10 @@
 // away").
 ghost use Rattle.std.specs.Prelude.{◌≡◌, ◌++◌, ◌+◌, ◌*◌, ◌≤◌, length};
 ghost use Rattle.std.proofs.lemmas.List.Edits.{sets};
-ghost use Rattle.lines.specs.Line.{charactersOf};
+ghost use Rattle.lines.specs.Line.{characters_of};
 ghost use Rattle.writing.specs.PutLine.{LinePut};
-ghost use Rattle.questions.specs.Bytes.{fillPairs};
-ghost use Rattle.commands.specs.Command.{CommandPut, issuedAs};
+ghost use Rattle.questions.specs.Bytes.{fill_pairs};
+ghost use Rattle.commands.specs.Command.{CommandPut, issued_as};
 
 use characters::{STOP, word_of};
 use heads::head_of;
@@ -35,7 +35,7 @@ pub fn write_command(q: Question, out: &mut [u16]) -> Issued
 }
 
 fn as_issued(put: Put) -> Issued
-    ensures { result ≡ issuedAs put }
+    ensures { result ≡ issued_as put }
 {
     match put {
         Put::Words(n) => Issued::Words(n),
@@ -46,7 +46,7 @@ fn as_issued(put: Put) -> Issued
 // The line of some bytes with fill pairs behind them: the line of the bytes alone, and the pairs from where it has its stop character on.
 fn put_filled(head: &[u8], pairs: usize, out: &mut [u16]) -> Put
     requires { (length head.now ≤ 6) × (pairs ≤ 32) }
-    ensures { LinePut (head.now ++ fillPairs pairs) out.old out.new result }
+    ensures { LinePut (head.now ++ fill_pairs pairs) out.old out.new result }
 {
     let start = 2 * head.len() + 1;
     let end = start + 4 * pairs;
@@ -62,7 +62,7 @@ fn put_filled(head: &[u8], pairs: usize, out: &mut [u16]) -> Put
 // So many fill pairs, from a place on.
 fn put_pairs(out: &mut [u16], start: usize, pairs: usize)
     requires { (pairs ≤ 32) × (start + 4 * pairs ≤ length out.old) }
-    ensures { out.new ≡ sets out.old start (charactersOf (fillPairs pairs)) }
+    ensures { out.new ≡ sets out.old start (characters_of (fill_pairs pairs)) }
 {
     let mut k = 0;
     while k < pairs {
@@ -74,7 +74,7 @@ fn put_pairs(out: &mut [u16], start: usize, pairs: usize)
 // One fill pair: C2 D3, low nibbles first.
 fn put_pair(out: &mut [u16], at: usize)
     requires { at + 4 ≤ length out.old }
-    ensures { out.new ≡ sets out.old at (charactersOf (fillPairs 1)) }
+    ensures { out.new ≡ sets out.old at (characters_of (fill_pairs 1)) }
 {
     out[at] = word_of(0x2);
     out[at + 1] = word_of(0xC);

@@ -1,9 +1,9 @@
 // The bytes of an answer held to its question: rows 7 to 11 of document 01's "Turned away", each over all bytes before the next.
 ghost use Rattle.std.specs.Prelude.{◌≡◌, take};
-ghost use Rattle.pec.specs.Pec.{pecOf};
+ghost use Rattle.pec.specs.Pec.{pec_of};
 ghost use Rattle.questions.specs.Shape.{shape_of};
-ghost use Rattle.contents.specs.Rows.{echoed, valueEchoed, pecRight, aliveRight, checkByte, countRight, taken_of};
-ghost use Rattle.contents.specs.InOrder.{judgeBytes};
+ghost use Rattle.contents.specs.Rows.{echoed, value_echoed, pec_right, alive_right, check_byte, count_right, taken_of};
+ghost use Rattle.contents.specs.InOrder.{judge_bytes};
 
 use pec::pec;
 use questions::question::{HELLOALL, Question, WRITEDEVICE, shape_of};
@@ -13,7 +13,7 @@ use std::num::wrapping_add_u8;
 
 // Row 7 of a write: its value came back.
 fn value_echoes(q: Question, bytes: &[u8]) -> bool
-    ensures { result ≡ valueEchoed q bytes.now }
+    ensures { result ≡ value_echoed q bytes.now }
 {
     let value = q.value;
     let low = (value % 256) as u8;
@@ -55,7 +55,7 @@ fn wide(b: u8) -> u16
 
 // The PEC of as many bytes as are covered.
 fn pec_before(bytes: &[u8], covered: usize) -> u8
-    ensures { result ≡ pecOf (take covered bytes.now) }
+    ensures { result ≡ pec_of (take covered bytes.now) }
 {
     if covered < bytes.len() {
         return pec(&bytes[..covered]);
@@ -66,7 +66,7 @@ fn pec_before(bytes: &[u8], covered: usize) -> u8
 // Row 8, PEC.
 fn pec_is_right(q: Question, covered: usize, bytes: &[u8]) -> bool
     requires { covered ≡ (shape_of q).covered }
-    ensures { result ≡ pecRight q bytes.now }
+    ensures { result ≡ pec_right q bytes.now }
 {
     if q.kind == HELLOALL {
         return true;
@@ -77,7 +77,7 @@ fn pec_is_right(q: Question, covered: usize, bytes: &[u8]) -> bool
 // Row 9, ALIVE: the seed and one for each device that acts, and after FFh comes 00h.
 fn alive_is_right(q: Question, covered: usize, acting: u8, bytes: &[u8]) -> bool
     requires { (covered ≡ (shape_of q).covered) × (acting ≡ (shape_of q).acting) }
-    ensures { result ≡ aliveRight q bytes.now }
+    ensures { result ≡ alive_right q bytes.now }
 {
     if q.kind == HELLOALL {
         return true;
@@ -92,7 +92,7 @@ fn alive_is_right(q: Question, covered: usize, acting: u8, bytes: &[u8]) -> bool
 // The check byte of a read, which stands behind the values; 0 of the other kinds, which have none.
 fn check_byte(q: Question, values: usize, bytes: &[u8]) -> u8
     requires { values ≡ (shape_of q).values }
-    ensures { result ≡ checkByte q bytes.now }
+    ensures { result ≡ check_byte q bytes.now }
 {
     if q.kind <= WRITEDEVICE {
         return 0;
@@ -102,7 +102,7 @@ fn check_byte(q: Question, values: usize, bytes: &[u8]) -> u8
 
 // Row 11, COUNT: HELLOALL's last byte is 1 to 32.
 fn count_is_right(q: Question, bytes: &[u8]) -> bool
-    ensures { result ≡ countRight q bytes.now }
+    ensures { result ≡ count_right q bytes.now }
 {
     if q.kind != HELLOALL {
         return true;
@@ -131,7 +131,7 @@ fn taken(q: Question, values: usize, bytes: &[u8]) -> Reading
 
 // Rows 7 to 11, and what is taken where all of them pass.
 pub fn judge_bytes(q: Question, bytes: &[u8]) -> Reading
-    ensures { result ≡ judgeBytes q bytes.now }
+    ensures { result ≡ judge_bytes q bytes.now }
 {
     let s = shape_of(q);
     let first = s.first;

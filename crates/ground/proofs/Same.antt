@@ -20,8 +20,8 @@ same_self [] = refl
 same_self (x ∷ xs) = ap₂ (λ (a b : Bool). a && b) (eq-eqb x x refl) (same_self xs)
 
 pub same_false : (xs ys : List ℕ) → (xs ≡ ys → ⊥) → same xs ys ≡ false
-same_false xs ys differ = by-test (same xs ys) refl
+same_false xs ys differ = by_test (same xs ys) refl
   where
-    by-test : (t : Bool) → same xs ys ≡ t → same xs ys ≡ false
-    by-test true e = absurd (differ (same_true xs ys e))
-    by-test false e = e
+    by_test : (t : Bool) → same xs ys ≡ t → same xs ys ≡ false
+    by_test true e = absurd (differ (same_true xs ys e))
+    by_test false e = e

@@ -33,17 +33,17 @@ passes test (suc n) k h e =
     (λ lower. or_right (test n) (some test n) (passes test n k lower e)) (eq-or-lt_of_le (le_of_suc-le-suc h))
 
 -- an entry of a computed table is its rule at the entry's place
-pub tabulated-at : (f : ℕ → ℕ) (n i k : ℕ) → k < n → get_or (tabulated f n i) k 0 ≡ f (i + k)
-tabulated-at f zero i k h = absurd (not-suc-le-zero h)
-tabulated-at f (suc n) i zero h = ap f (sym (add-zero i))
-tabulated-at f (suc n) i (suc k) h = tabulated-at f n (suc i) k (le_of_suc-le-suc h) ∙ ap f (suc-add i k ∙ sym (add-suc i k))
+pub tabulated_at : (f : ℕ → ℕ) (n i k : ℕ) → k < n → get_or (tabulated f n i) k 0 ≡ f (i + k)
+tabulated_at f zero i k h = absurd (not-suc-le-zero h)
+tabulated_at f (suc n) i zero h = ap f (sym (add-zero i))
+tabulated_at f (suc n) i (suc k) h = tabulated_at f n (suc i) k (le_of_suc-le-suc h) ∙ ap f (suc-add i k ∙ sym (add-suc i k))
 
-pub length-tabulated : (f : ℕ → ℕ) (n i : ℕ) → length (tabulated f n i) ≡ n
-length-tabulated f zero i = refl
-length-tabulated f (suc n) i = ap suc (length-tabulated f n (suc i))
+pub length_tabulated : (f : ℕ → ℕ) (n i : ℕ) → length (tabulated f n i) ≡ n
+length_tabulated f zero i = refl
+length_tabulated f (suc n) i = ap suc (length_tabulated f n (suc i))
 
 -- two rules that agree at the places of a table make the same table
-pub tabulated-same : (f g : ℕ → ℕ) (n i : ℕ) → ((k : ℕ) → k < i + n → f k ≡ g k) → tabulated f n i ≡ tabulated g n i
-tabulated-same f g zero i h = refl
-tabulated-same f g (suc n) i h =
-    ap₂ (λ (x : ℕ) (l : List ℕ). x ∷ l) (h i (omega arith)) (tabulated-same f g n (suc i) (λ k lt. h k (omega arith)))
+pub tabulated_same : (f g : ℕ → ℕ) (n i : ℕ) → ((k : ℕ) → k < i + n → f k ≡ g k) → tabulated f n i ≡ tabulated g n i
+tabulated_same f g zero i h = refl
+tabulated_same f g (suc n) i h =
+    ap₂ (λ (x : ℕ) (l : List ℕ). x ∷ l) (h i (omega arith)) (tabulated_same f g n (suc i) (λ k lt. h k (omega arith)))

@@ -34,11 +34,11 @@ or_right false b e = e
 
 -- a comparison of two numbers, both ways
 pub below_or_not : (a b : ℕ) → (a < b) ⊎ (b ≤ a)
-below_or_not a b = by-test (ltb a b) refl
+below_or_not a b = by_test (ltb a b) refl
   where
-    by-test : (t : Bool) → ltb a b ≡ t → (a < b) ⊎ (b ≤ a)
-    by-test true e = inl (ltb-true a b e)
-    by-test false e = inr (ltb-false a b e)
+    by_test : (t : Bool) → ltb a b ≡ t → (a < b) ⊎ (b ≤ a)
+    by_test true e = inl (ltb-true a b e)
+    by_test false e = inr (ltb-false a b e)
 
 -- two tests each of which passes where the other does
 pub same_way : (t u : Bool) → (t ≡ true → u ≡ true) → (u ≡ true → t ≡ true) → t ≡ u

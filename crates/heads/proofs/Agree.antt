@@ -3,5 +3,5 @@ use mathlib.Core.Path.{sym, ◌∙◌}
 use Rattle.ground.specs.Agree.{Settled}
 use Rattle.heads.proofs.head_of.Reads as head_of
 
-pub head-of-settled : Settled head_of.Post
-head-of-settled l given r r' left left' p q = p ∙ sym q
+pub head_of_settled : Settled head_of.Post
+head_of_settled l given r r' left left' p q = p ∙ sym q

@@ -1,6 +1,6 @@
 // The bytes of a command before its fill pairs (document 01, "Commands and answers"), for whoever writes a command, over words or over bytes.
 ghost use Rattle.std.specs.Prelude.{◌≡◌, ◌≤◌};
-ghost use Rattle.heads.specs.Head.{withAlive, head_of, writeHead, read_head};
+ghost use Rattle.heads.specs.Head.{with_alive, head_of, write_head, read_head};
 
 use pec::step;
 use questions::question::{HELLOALL, Question, WRITEDEVICE, shape_of};
@@ -32,7 +32,7 @@ pub fn head_of(q: Question) -> Head
 }
 
 fn write_head(first: u8, q: Question) -> Head
-    ensures { result ≡ writeHead first q }
+    ensures { result ≡ write_head first q }
 {
     let reg = q.reg;
     let low = (q.value % 256) as u8;
@@ -60,7 +60,7 @@ fn read_head(first: u8, q: Question) -> Head
 // So many places, and the alive byte's where the bench has it on.
 fn with_alive(q: Question, places: usize) -> usize
     requires { places ≤ 5 }
-    ensures { result ≡ withAlive q places }
+    ensures { result ≡ with_alive q places }
 {
     if q.alive == 1 {
         return places + 1;

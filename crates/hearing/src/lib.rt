@@ -1,6 +1,6 @@
 // What a line asks of a device, as far as its bytes and its length tell (document 01, "The twin").
 ghost use Rattle.std.specs.Prelude.{◌≡◌};
-ghost use Rattle.hearing.specs.Hear.{isPlace, kindHeard, carried, alivePlace, aliveTold, plainly, heard};
+ghost use Rattle.hearing.specs.Hear.{is_place, kind_heard, carried, alive_place, alive_told, plainly, heard};
 
 use lines::read::byte_at;
 use questions::question::{
@@ -9,7 +9,7 @@ use questions::question::{
 
 // Whether this is a device of a chain of 1 to 32.
 pub fn is_place(n: u8, device: u8) -> bool
-    ensures { result ≡ isPlace n device }
+    ensures { result ≡ is_place n device }
 {
     if n < 1 {
         return false;
@@ -22,7 +22,7 @@ pub fn is_place(n: u8, device: u8) -> bool
 
 // The kind that the first byte names to this device.
 fn kind_heard(device: u8, first: u8) -> u8
-    ensures { result ≡ kindHeard device first }
+    ensures { result ≡ kind_heard device first }
 {
     if first == 0x57 {
         return HELLOALL;
@@ -51,7 +51,7 @@ pub fn carried_by(kind: u8, device: u8) -> usize
 
 // Where the alive byte stands: directly after the PEC.
 fn alive_place(kind: u8, device: u8) -> usize
-    ensures { result ≡ alivePlace kind device }
+    ensures { result ≡ alive_place kind device }
 {
     if kind <= WRITEDEVICE {
         return 5;
@@ -61,7 +61,7 @@ fn alive_place(kind: u8, device: u8) -> usize
 
 // The length tells whether alive is on.
 fn with_alive(q: Question, words: usize) -> Question
-    ensures { result ≡ aliveTold q words }
+    ensures { result ≡ alive_told q words }
 {
     let s = shape_of(q);
     let off = s.words;

@@ -2,27 +2,27 @@
 use mathlib.Core.Path.{sym, ap, ◌∙◌}
 use Prim.Native.Nat.{ℕ}
 use Rattle.ground.specs.Agree.{Settled}
-use Rattle.jobs.proofs.entry.is_good_entry.Reads as is-good-entry
+use Rattle.jobs.proofs.entry.is_good_entry.Reads as is_good_entry
 use Rattle.jobs.proofs.entry.size_in.Reads as size_in
-use Rattle.jobs.proofs.head_size.Reads as head-size
+use Rattle.jobs.proofs.head_size.Reads as head_size
 use Rattle.jobs.proofs.first.Reads as first
-use Rattle.jobs.proofs.field_size.Reads as field-size
-use Rattle.jobs.proofs.next_entry.Reads as next-entry
+use Rattle.jobs.proofs.field_size.Reads as field_size
+use Rattle.jobs.proofs.next_entry.Reads as next_entry
 
-pub is-good-entry-settled : Settled is-good-entry.Post
-is-good-entry-settled l given r r' left left' p q = p ∙ sym q
+pub is_good_entry_settled : Settled is_good_entry.Post
+is_good_entry_settled l given r r' left left' p q = p ∙ sym q
 
-pub size-in-settled : Settled size_in.Post
-size-in-settled l given r r' left left' p q = p ∙ sym q
+pub size_in_settled : Settled size_in.Post
+size_in_settled l given r r' left left' p q = p ∙ sym q
 
-pub head-size-settled : Settled head-size.Post
-head-size-settled l given r r' left left' p q = p ∙ sym q
+pub head_size_settled : Settled head_size.Post
+head_size_settled l given r r' left left' p q = p ∙ sym q
 
-pub first-settled : Settled first.Post
-first-settled l given r r' left left' p q = ap (λ (k : ℕ). record { at = k }) (p ∙ sym q)
+pub first_settled : Settled first.Post
+first_settled l given r r' left left' p q = ap (λ (k : ℕ). record { at = k }) (p ∙ sym q)
 
-pub field-size-settled : Settled field-size.Post
-field-size-settled l given r r' left left' p q = p ∙ sym q
+pub field_size_settled : Settled field_size.Post
+field_size_settled l given r r' left left' p q = p ∙ sym q
 
-pub next-entry-settled : Settled next-entry.Post
-next-entry-settled l given r r' left left' p q = p ∙ sym q
+pub next_entry_settled : Settled next_entry.Post
+next_entry_settled l given r r' left left' p q = p ∙ sym q

@@ -16,67 +16,67 @@ use Rattle.jobs.specs.declared.Cursor.{Cursor}
 use Rattle.jobs.specs.declared.Opened.{Opened}
 use Rattle.jobs.specs.declared.Next.{Next}
 use Rattle.jobs.specs.declared.Next.TheVariants as next
-use Rattle.jobs.specs.Format.{fieldSize}
-use Rattle.jobs.specs.Check.{words_in, sizeIn, maskIn, entryIn, askedIn, goodEntry, placedIn, nextIn, next_of, goodFile, opened_of}
-use Rattle.jobs.specs.contracts.Opened as opened-file
-use Rattle.jobs.specs.contracts.Next as next-entry
-use Rattle.jobs.proofs.Sizes.{field-bounds}
-use Rattle.jobs.proofs.GoodEntry.{good, next-is}
-use Rattle.jobs.proofs.Entries.{opened-good}
+use Rattle.jobs.specs.Format.{field_size}
+use Rattle.jobs.specs.Check.{words_in, size_in, mask_in, entry_in, asked_in, good_entry, placed_in, next_in, next_of, good_file, opened_of}
+use Rattle.jobs.specs.contracts.Opened as opened_file
+use Rattle.jobs.specs.contracts.Next as next_entry
+use Rattle.jobs.proofs.Sizes.{field_bounds}
+use Rattle.jobs.proofs.GoodEntry.{good, next_is}
+use Rattle.jobs.proofs.Entries.{opened_good}
 
 -- an entry is said only where a good one stands
-pub entry-stands : (h : Header) (file : List ℕ) (at : ℕ) (r : Next) (e : EntryAt) (c : Cursor) → r ≡ next_of h file (record { at = at }) → r ≡ next.Entry e c
-    → goodEntry h (drop at file) ≡ true
+pub entry_stands : (h : Header) (file : List ℕ) (at : ℕ) (r : Next) (e : EntryAt) (c : Cursor) → r ≡ next_of h file (record { at = at }) → r ≡ next.Entry e c
+    → good_entry h (drop at file) ≡ true
 unfolding next_of
-entry-stands h file at r e c says is = by_bytes (drop at file) (sym says ∙ is)
+entry_stands h file at r e c says is = by_bytes (drop at file) (sym says ∙ is)
   where
-    by-test : (t : Bool) (n : Next) → cond t n next.File ≡ next.Entry e c → t ≡ true
-    by-test true n same = refl
-    by-test false n same = let z : ◌≡◌ {A = ℕ} 0 1 = cc in absurd (omega arith)
+    by_test : (t : Bool) (n : Next) → cond t n next.File ≡ next.Entry e c → t ≡ true
+    by_test true n same = refl
+    by_test false n same = let z : ◌≡◌ {A = ℕ} 0 1 = cc in absurd (omega arith)
 
-    by_bytes : (l : List ℕ) → nextIn h at l ≡ next.Entry e c → goodEntry h l ≡ true
+    by_bytes : (l : List ℕ) → next_in h at l ≡ next.Entry e c → good_entry h l ≡ true
     by_bytes [] same = let z : ◌≡◌ {A = ℕ} 0 1 = cc in absurd (omega arith)
-    by_bytes (b ∷ l) same = by-test (goodEntry h (b ∷ l)) (placedIn h at (b ∷ l)) same
+    by_bytes (b ∷ l) same = by_test (good_entry h (b ∷ l)) (placed_in h at (b ∷ l)) same
 
-module _ (h : Header) (file : List ℕ) (at : ℕ) (this-good : goodEntry h (drop at file) ≡ true) where
-  pub found : next_of h file (record { at = at }) ≡ placedIn h at (drop at file)
+module _ (h : Header) (file : List ℕ) (at : ℕ) (this_good : good_entry h (drop at file) ≡ true) where
+  pub found : next_of h file (record { at = at }) ≡ placed_in h at (drop at file)
   unfolding next_of
   found =
-      next-is h (drop at file) at (omega (arith, (good h (drop at file) this-good).whole, (field-bounds h.version).0))
-      ∙ ap (λ (t : Bool). cond t (placedIn h at (drop at file)) next.File) this-good
+      next_is h (drop at file) at (omega (arith, (good h (drop at file) this_good).whole, (field_bounds h.version).0))
+      ∙ ap (λ (t : Bool). cond t (placed_in h at (drop at file)) next.File) this_good
 
   -- so that the other answers do not come
-  pub no_other : (r : Next) → r ≡ next_of h file (record { at = at }) → OneOf (1 ∷ 2 ∷ []) (tag_of next-entry.the_type r) → ⊥
-  no_other r says other = miss (1 ∷ 2 ∷ []) 0 tt (subst (λ (x : Next). OneOf (1 ∷ 2 ∷ []) (tag_of next-entry.the_type x)) (says ∙ found) other)
+  pub no_other : (r : Next) → r ≡ next_of h file (record { at = at }) → OneOf (1 ∷ 2 ∷ []) (tag_of next_entry.the_type r) → ⊥
+  no_other r says other = miss (1 ∷ 2 ∷ []) 0 tt (subst (λ (x : Next). OneOf (1 ∷ 2 ∷ []) (tag_of next_entry.the_type x)) (says ∙ found) other)
 
   -- and the one that comes is the entry in its place
   pub record Placed (e : EntryAt) (c : Cursor) : Type 0 where
     pub entry : e ≡ record {
-      question = askedIn h (drop at file);
-      mask = maskIn h.version (drop at file);
-      start = at + fieldSize h.version;
+      question = asked_in h (drop at file);
+      mask = mask_in h.version (drop at file);
+      start = at + field_size h.version;
       words = words_in h.version (drop at file);
     }
-    pub after : c.at ≡ at + sizeIn h.version (drop at file)
+    pub after : c.at ≡ at + size_in h.version (drop at file)
 
   pub placed : (r : Next) (e : EntryAt) (c : Cursor) → r ≡ next_of h file (record { at = at }) → r ≡ next.Entry e c → Placed e c
   placed r e c says is = by (sym is ∙ says ∙ found)
     where
-      by : next.Entry e c ≡ placedIn h at (drop at file) → Placed e c
+      by : next.Entry e c ≡ placed_in h at (drop at file) → Placed e c
       by same = record { entry = cc; after = ap (λ (x : Cursor). x.at) cc }
 
-  pub entry-words : words_in h.version (drop at file) ≤ 140
-  entry-words = (good h (drop at file) this-good).words
+  pub entry_words : words_in h.version (drop at file) ≤ 140
+  entry_words = (good h (drop at file) this_good).words
 
-  pub entry-within : at + sizeIn h.version (drop at file) ≤ length file
-  entry-within = omega (arith, (good h (drop at file) this-good).whole, length-drop at file, (field-bounds h.version).0)
+  pub entry_within : at + size_in h.version (drop at file) ≤ length file
+  entry_within = omega (arith, (good h (drop at file) this_good).whole, length-drop at file, (field_bounds h.version).0)
 
   -- the words behind its fields
-  pub words-there : words_of (take (2 * words_in h.version (drop at file)) (drop (at + fieldSize h.version) file)) ≡ (entryIn h.version (drop at file)).words
-  words-there = ap (λ (l : List ℕ). words_of (take (2 * words_in h.version (drop at file)) l)) (sym (drop-drop (fieldSize h.version) at file))
+  pub words_there : words_of (take (2 * words_in h.version (drop at file)) (drop (at + field_size h.version) file)) ≡ (entry_in h.version (drop at file)).words
+  words_there = ap (λ (l : List ℕ). words_of (take (2 * words_in h.version (drop at file)) l)) (sym (drop-drop (field_size h.version) at file))
 
 -- a file that is turned away
-pub no-job : (file : List ℕ) (r : Opened) → r ≡ opened_of file → OneOf (1 ∷ []) (tag_of opened-file.the_type r) → goodFile file ≡ false
-no-job file r says other =
-    refuted (goodFile file)
-    (λ ok. miss (1 ∷ []) 0 tt (subst (λ (x : Opened). OneOf (1 ∷ []) (tag_of opened-file.the_type x)) (says ∙ opened-good file ok) other))
+pub no_job : (file : List ℕ) (r : Opened) → r ≡ opened_of file → OneOf (1 ∷ []) (tag_of opened_file.the_type r) → good_file file ≡ false
+no_job file r says other =
+    refuted (good_file file)
+    (λ ok. miss (1 ∷ []) 0 tt (subst (λ (x : Opened). OneOf (1 ∷ []) (tag_of opened_file.the_type x)) (says ∙ opened_good file ok) other))

@@ -9,54 +9,54 @@ use lib.Dec.{leb}
 use lib.ListN.{length, length-append}
 use borrow.Author.Tests.{le-leb, lt-leb}
 use Rattle.ground.proofs.Test.{below_or_not}
-use Rattle.packing.specs.Words.{lowHigh}
+use Rattle.packing.specs.Words.{low_high}
 use Rattle.jobs.specs.declared.Header.{Header}
-use Rattle.jobs.specs.Format.{since, headerBytes, fieldBytes, headSize, fieldSize, maskPlace, behindMask}
+use Rattle.jobs.specs.Format.{since, header_bytes, field_bytes, head_size, field_size, mask_place, behind_mask}
 
-pub head-length : (h : Header) → length (headerBytes h) ≡ headSize
-unfolding headSize
-head-length h = refl
+pub head_length : (h : Header) → length (header_bytes h) ≡ head_size
+unfolding head_size
+head_length h = refl
 
-pub head-bounds : (7 ≤ headSize) × (headSize ≤ 16)
-unfolding headSize
-head-bounds = (omega arith, omega arith)
+pub head_bounds : (7 ≤ head_size) × (head_size ≤ 16)
+unfolding head_size
+head_bounds = (omega arith, omega arith)
 
 module _ (version : ℕ) where
   -- by the version: no mask, or two bytes
-  pub behind-old : version < 2 → behindMask version ≡ maskPlace
-  unfolding behindMask
-  behind-old old = ap (λ (t : Bool). maskPlace + length (cond t (lowHigh 0) [])) (lt-leb 2 version old)
+  pub behind_old : version < 2 → behind_mask version ≡ mask_place
+  unfolding behind_mask
+  behind_old old = ap (λ (t : Bool). mask_place + length (cond t (low_high 0) [])) (lt-leb 2 version old)
 
-  pub behind-new : 2 ≤ version → behindMask version ≡ maskPlace + 2
-  unfolding behindMask
-  behind-new new = ap (λ (t : Bool). maskPlace + length (cond t (lowHigh 0) [])) (le-leb 2 version new)
+  pub behind_new : 2 ≤ version → behind_mask version ≡ mask_place + 2
+  unfolding behind_mask
+  behind_new new = ap (λ (t : Bool). mask_place + length (cond t (low_high 0) [])) (le-leb 2 version new)
 
   -- a mask is as long as any other
-  pub behind-mask : (mask : ℕ) → maskPlace + length (since 2 version (lowHigh mask)) ≡ behindMask version
-  unfolding behindMask
-  behind-mask mask = by-test (leb 2 version)
+  pub behind_mask_lem : (mask : ℕ) → mask_place + length (since 2 version (low_high mask)) ≡ behind_mask version
+  unfolding behind_mask
+  behind_mask_lem mask = by_test (leb 2 version)
     where
-      by-test : (t : Bool) → maskPlace + length (cond t (lowHigh mask) []) ≡ maskPlace + length (cond t (lowHigh 0) [])
-      by-test true = refl
-      by-test false = refl
+      by_test : (t : Bool) → mask_place + length (cond t (low_high mask) []) ≡ mask_place + length (cond t (low_high 0) [])
+      by_test true = refl
+      by_test false = refl
 
-  pub behind-bounds : (4 ≤ behindMask version) × (behindMask version ≤ 6)
-  behind-bounds =
+  pub behind_bounds : (4 ≤ behind_mask version) × (behind_mask version ≤ 6)
+  behind_bounds =
       ⊎_elim
-      (λ (old : version < 2). (omega (arith, behind-old old), omega (arith, behind-old old)))
-      (λ (new : 2 ≤ version). (omega (arith, behind-new new), omega (arith, behind-new new)))
+      (λ (old : version < 2). (omega (arith, behind_old old), omega (arith, behind_old old)))
+      (λ (new : 2 ≤ version). (omega (arith, behind_new new), omega (arith, behind_new new)))
       (below_or_not version 2)
 
   -- four bytes stand behind it
-  fields-end : (kind reg value mask device seed words : ℕ) → length (fieldBytes version kind reg value mask device seed words) ≡ behindMask version + 4
-  fields-end kind reg value mask device seed words = simp length-append (omega (arith, behind-mask mask))
+  fields_end : (kind reg value mask device seed words : ℕ) → length (field_bytes version kind reg value mask device seed words) ≡ behind_mask version + 4
+  fields_end kind reg value mask device seed words = simp length-append (omega (arith, behind_mask_lem mask))
 
-  pub field-size-is : fieldSize version ≡ behindMask version + 4
-  unfolding fieldSize
-  field-size-is = fields-end 0 0 0 0 0 0 0
+  pub field_size_is : field_size version ≡ behind_mask version + 4
+  unfolding field_size
+  field_size_is = fields_end 0 0 0 0 0 0 0
 
-  pub fields-length : (kind reg value mask device seed words : ℕ) → length (fieldBytes version kind reg value mask device seed words) ≡ fieldSize version
-  fields-length kind reg value mask device seed words = omega (arith, fields-end kind reg value mask device seed words, field-size-is)
+  pub fields_length : (kind reg value mask device seed words : ℕ) → length (field_bytes version kind reg value mask device seed words) ≡ field_size version
+  fields_length kind reg value mask device seed words = omega (arith, fields_end kind reg value mask device seed words, field_size_is)
 
-  pub field-bounds : (8 ≤ fieldSize version) × (fieldSize version ≤ 16)
-  field-bounds = (omega (arith, field-size-is, behind-bounds.0), omega (arith, field-size-is, behind-bounds.1))
+  pub field_bounds : (8 ≤ field_size version) × (field_size version ≤ 16)
+  field_bounds = (omega (arith, field_size_is, behind_bounds.0), omega (arith, field_size_is, behind_bounds.1))

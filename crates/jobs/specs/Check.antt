@@ -11,8 +11,8 @@ use Rattle.jobs.specs.declared.Opened.{Opened}
 use Rattle.jobs.specs.declared.Opened.TheVariants as opened
 use Rattle.jobs.specs.declared.Next.{Next}
 use Rattle.jobs.specs.declared.Next.TheVariants as next
-use Rattle.jobs.specs.Format.{Entry, fieldBytes, headSize, fieldSize, maskPlace, behindMask, asked}
-use Rattle.jobs.specs.Rules.{goodHeader, keepsRules}
+use Rattle.jobs.specs.Format.{Entry, field_bytes, head_size, field_size, mask_place, behind_mask, asked}
+use Rattle.jobs.specs.Rules.{good_header, keeps_rules}
 
 -- 16 bits of two bytes, low first
 abbrev pub pair_at : List ℕ → (i j : ℕ) → ℕ
@@ -20,91 +20,91 @@ pair_at bytes i j = get_or bytes i 0 + 256 * get_or bytes j 0
 
 -- the number of words of the entry at the front of some bytes, and its size in bytes
 abbrev pub words_in : (version : ℕ) → List ℕ → ℕ
-words_in version front = pair_at front (behindMask version + 2) (behindMask version + 3)
+words_in version front = pair_at front (behind_mask version + 2) (behind_mask version + 3)
 
-abbrev pub sizeIn : (version : ℕ) → List ℕ → ℕ
-sizeIn version front = fieldSize version + 2 * words_in version front
+abbrev pub size_in : (version : ℕ) → List ℕ → ℕ
+size_in version front = field_size version + 2 * words_in version front
 
 -- how many of them stand behind its first byte
-abbrev pub behindFirst : (version : ℕ) → List ℕ → ℕ
-behindFirst version front = length (drop 1 (fieldBytes version 0 0 0 0 0 0 0)) + 2 * words_in version front
+abbrev pub behind_first : (version : ℕ) → List ℕ → ℕ
+behind_first version front = length (drop 1 (field_bytes version 0 0 0 0 0 0 0)) + 2 * words_in version front
 
 -- its mask: the one that stands there, and where the version has none the one that goes without saying
-abbrev pub maskIn : (version : ℕ) → List ℕ → ℕ
-maskIn version front = mask_of version (get_or front 0 0) (pair_at front maskPlace (maskPlace + 1))
+abbrev pub mask_in : (version : ℕ) → List ℕ → ℕ
+mask_in version front = mask_of version (get_or front 0 0) (pair_at front mask_place (mask_place + 1))
 
 -- the entry at the front of some bytes
-abbrev pub entryIn : (version : ℕ) → List ℕ → Entry
-entryIn version front = record {
+abbrev pub entry_in : (version : ℕ) → List ℕ → Entry
+entry_in version front = record {
   kind = get_or front 0 0;
   reg = get_or front 1 0;
   value = pair_at front 2 3;
-  mask = maskIn version front;
-  device = get_or front (behindMask version) 0;
-  seed = get_or front (behindMask version + 1) 0;
-  words = words_of (take (2 * words_in version front) (drop (fieldSize version) front));
+  mask = mask_in version front;
+  device = get_or front (behind_mask version) 0;
+  seed = get_or front (behind_mask version + 1) 0;
+  words = words_of (take (2 * words_in version front) (drop (field_size version) front));
 }
 
-abbrev pub askedIn : Header → List ℕ → Question
-askedIn h front = asked h (entryIn h.version front)
+abbrev pub asked_in : Header → List ℕ → Question
+asked_in h front = asked h (entry_in h.version front)
 
 -- not cut short, and keeping the rules
-unfoldable pub goodEntry : Header → List ℕ → Bool
-goodEntry h front =
-    leb (fieldSize h.version) (length front) && leb (sizeIn h.version front) (length front) && keepsRules h (entryIn h.version front)
+unfoldable pub good_entry : Header → List ℕ → Bool
+good_entry h front =
+    leb (field_size h.version) (length front) && leb (size_in h.version front) (length front) && keeps_rules h (entry_in h.version front)
 
 -- The entries from some bytes on, one after the other: the bytes of an entry are passed over before the next begins.
 module _ (version : ℕ) {A : Type 0} (end : A) (entry : (front : List ℕ) → (later : A) → A) where
-  unfoldable pub walkFrom : (pass : ℕ) → List ℕ → A
-  walkFrom pass [] = end
-  walkFrom zero (b ∷ bytes) = entry (b ∷ bytes) (walkFrom (behindFirst version (b ∷ bytes)) bytes)
-  walkFrom (suc pass) (b ∷ bytes) = walkFrom pass bytes
+  unfoldable pub walk_from : (pass : ℕ) → List ℕ → A
+  walk_from pass [] = end
+  walk_from zero (b ∷ bytes) = entry (b ∷ bytes) (walk_from (behind_first version (b ∷ bytes)) bytes)
+  walk_from (suc pass) (b ∷ bytes) = walk_from pass bytes
 
 -- every entry is good
-abbrev pub goodEntries : Header → List ℕ → Bool
-goodEntries h bytes = walkFrom h.version true (λ (front : List ℕ) (later : Bool). goodEntry h front && later) 0 bytes
+abbrev pub good_entries : Header → List ℕ → Bool
+good_entries h bytes = walk_from h.version true (λ (front : List ℕ) (later : Bool). good_entry h front && later) 0 bytes
 
 -- the entries
-abbrev pub entriesIn : (version : ℕ) → List ℕ → List Entry
-entriesIn version bytes = walkFrom version [] (λ (front : List ℕ) (later : List Entry). entryIn version front ∷ later) 0 bytes
+abbrev pub entries_in : (version : ℕ) → List ℕ → List Entry
+entries_in version bytes = walk_from version [] (λ (front : List ℕ) (later : List Entry). entry_in version front ∷ later) 0 bytes
 
 -- the mark BMC
 unfoldable pub marked : List ℕ → Bool
 marked file = eqb (get_or file 0 0) 0x42 && eqb (get_or file 1 0) 0x4D && eqb (get_or file 2 0) 0x43
 
-abbrev pub headerIn : List ℕ → Header
-headerIn file = record { version = pair_at file 3 4; n = get_or file 5 0; alive = get_or file 6 0 }
+abbrev pub header_in : List ℕ → Header
+header_in file = record { version = pair_at file 3 4; n = get_or file 5 0; alive = get_or file 6 0 }
 
 -- FILE is given exactly when this is false: the file is longer than 65,536 bytes, the header is cut short or wrong, or an entry is not good
-unfoldable pub goodFile : List ℕ → Bool
-goodFile file =
-    leb (length file) 65536 && leb headSize (length file) && marked file && goodHeader (headerIn file) && goodEntries (headerIn file) (drop headSize file)
+unfoldable pub good_file : List ℕ → Bool
+good_file file =
+    leb (length file) 65536 && leb head_size (length file) && marked file && good_header (header_in file) && good_entries (header_in file) (drop head_size file)
 
 -- what `open` says
 unfoldable pub opened_of : List ℕ → Opened
-opened_of file = cond (goodFile file) (opened.Job (headerIn file)) opened.File
+opened_of file = cond (good_file file) (opened.Job (header_in file)) opened.File
 
 -- document 01's number of that answer
-abbrev pub openedNumber : Opened → ℕ
-openedNumber (opened.Job h) = 0
-openedNumber opened.File = 14
+abbrev pub opened_number : Opened → ℕ
+opened_number (opened.Job h) = 0
+opened_number opened.File = 14
 
 -- an entry with its place
-abbrev pub placedIn : Header → (at : ℕ) → (front : List ℕ) → Next
-placedIn h at front =
-    next.Entry (record { question = askedIn h front; mask = maskIn h.version front; start = at + fieldSize h.version; words = words_in h.version front })
-    (record { at = at + sizeIn h.version front })
+abbrev pub placed_in : Header → (at : ℕ) → (front : List ℕ) → Next
+placed_in h at front =
+    next.Entry (record { question = asked_in h front; mask = mask_in h.version front; start = at + field_size h.version; words = words_in h.version front })
+    (record { at = at + size_in h.version front })
 
-abbrev pub nextIn : Header → (at : ℕ) → (rest : List ℕ) → Next
-nextIn h at [] = next.End
-nextIn h at (b ∷ rest) = cond (goodEntry h (b ∷ rest)) (placedIn h at (b ∷ rest)) next.File
+abbrev pub next_in : Header → (at : ℕ) → (rest : List ℕ) → Next
+next_in h at [] = next.End
+next_in h at (b ∷ rest) = cond (good_entry h (b ∷ rest)) (placed_in h at (b ∷ rest)) next.File
 
 -- what `next` says: from the cursor on
 unfoldable pub next_of : Header → List ℕ → Cursor → Next
-next_of h file c = nextIn h c.at (drop c.at file)
+next_of h file c = next_in h c.at (drop c.at file)
 
 -- document 01's number of that answer: the end of the entries is no refusal
-abbrev pub nextNumber : Next → ℕ
-nextNumber (next.Entry e c) = 0
-nextNumber next.End = 0
-nextNumber next.File = 14
+abbrev pub next_number : Next → ℕ
+next_number (next.Entry e c) = 0
+next_number next.End = 0
+next_number next.File = 14

@@ -1,7 +1,7 @@
 -- The job file to the byte (document 01, "Job file and certificate"; document 02, M-100), by encoding: the bytes of a header, of an entry, of a
 -- file. The mark is three ASCII bytes; a field not called 16 bits is one byte; 16 bits go low byte first.
 use Rattle.std.specs.Prelude.{cond, List, [], ◌∷◌, ◌++◌, ℕ, ◌+◌, leb, length}
-use Rattle.packing.specs.Words.{lowHigh, asBytes}
+use Rattle.packing.specs.Words.{low_high, as_bytes}
 use Rattle.questions.specs.Question.{asking}
 use Rattle.questions.specs.declared.question.Question.{Question}
 use Rattle.jobs.specs.declared.Header.{Header}
@@ -21,39 +21,39 @@ abbrev pub since : (from version : ℕ) → (field : List ℕ) → List ℕ
 since from version field = cond (leb from version) field []
 
 -- the mark BMC, the version (16 bits), n, alive
-abbrev pub headerBytes : Header → List ℕ
-headerBytes h = 0x42 ∷ 0x4D ∷ 0x43 ∷ (lowHigh h.version ++ (h.n ∷ h.alive ∷ []))
+abbrev pub header_bytes : Header → List ℕ
+header_bytes h = 0x42 ∷ 0x4D ∷ 0x43 ∷ (low_high h.version ++ (h.n ∷ h.alive ∷ []))
 
 -- kind, register, value (16 bits), since version 2 the mask (16 bits), device, seed, number of words (16 bits)
-abbrev pub fieldBytes : (version kind reg value mask device seed words : ℕ) → List ℕ
-fieldBytes version kind reg value mask device seed words =
-    kind ∷ reg ∷ (lowHigh value ++ (since 2 version (lowHigh mask) ++ (device ∷ seed ∷ lowHigh words)))
+abbrev pub field_bytes : (version kind reg value mask device seed words : ℕ) → List ℕ
+field_bytes version kind reg value mask device seed words =
+    kind ∷ reg ∷ (low_high value ++ (since 2 version (low_high mask) ++ (device ∷ seed ∷ low_high words)))
 
 -- how many bytes that is, for every header and every entry
-unfoldable pub headSize : ℕ
-headSize = length (headerBytes (record { version = 0; n = 0; alive = 0 }))
+unfoldable pub head_size : ℕ
+head_size = length (header_bytes (record { version = 0; n = 0; alive = 0 }))
 
-unfoldable pub fieldSize : (version : ℕ) → ℕ
-fieldSize version = length (fieldBytes version 0 0 0 0 0 0 0)
+unfoldable pub field_size : (version : ℕ) → ℕ
+field_size version = length (field_bytes version 0 0 0 0 0 0 0)
 
 -- the place of the mask, behind the value; and the one behind both, where device, seed and the number of words stand
-abbrev pub maskPlace : ℕ
-maskPlace = 4
+abbrev pub mask_place : ℕ
+mask_place = 4
 
-unfoldable pub behindMask : (version : ℕ) → ℕ
-behindMask version = maskPlace + length (since 2 version (lowHigh 0))
+unfoldable pub behind_mask : (version : ℕ) → ℕ
+behind_mask version = mask_place + length (since 2 version (low_high 0))
 
 -- an entry: its fields, and the answer's words
-abbrev pub entryBytes : (version : ℕ) → Entry → List ℕ
-entryBytes version e =
-    fieldBytes version e.kind e.reg e.value e.mask e.device e.seed (length e.words) ++ asBytes e.words
+abbrev pub entry_bytes : (version : ℕ) → Entry → List ℕ
+entry_bytes version e =
+    field_bytes version e.kind e.reg e.value e.mask e.device e.seed (length e.words) ++ as_bytes e.words
 
-unfoldable pub entriesBytes : (version : ℕ) → List Entry → List ℕ
-entriesBytes version [] = []
-entriesBytes version (e ∷ es) = entryBytes version e ++ entriesBytes version es
+unfoldable pub entries_bytes : (version : ℕ) → List Entry → List ℕ
+entries_bytes version [] = []
+entries_bytes version (e ∷ es) = entry_bytes version e ++ entries_bytes version es
 
-abbrev pub fileBytes : Header → List Entry → List ℕ
-fileBytes h es = headerBytes h ++ entriesBytes h.version es
+abbrev pub file_bytes : Header → List Entry → List ℕ
+file_bytes h es = header_bytes h ++ entries_bytes h.version es
 
 -- the entry's question: n and alive stand in the header
 abbrev pub asked : Header → Entry → Question

@@ -1,8 +1,8 @@
 // The entries (document 01, "Job file and certificate"; document 02, M-100): whether one stands at the front of some bytes, its size, and one taken
 // out at its place.
 ghost use Rattle.std.specs.Prelude.{◌≡◌, true, ◌+◌, ◌≤◌, length, drop};
-ghost use Rattle.jobs.specs.Format.{behindMask};
-ghost use Rattle.jobs.specs.Check.{words_in, sizeIn, maskIn, askedIn, goodEntry, placedIn};
+ghost use Rattle.jobs.specs.Format.{behind_mask};
+ghost use Rattle.jobs.specs.Check.{words_in, size_in, mask_in, asked_in, good_entry, placed_in};
 
 use crate::{Cursor, EntryAt, Header, Next, field_size};
 use masks::{is_good_mask, mask_of};
@@ -13,7 +13,7 @@ use used_fields::are_unused_zero;
 
 // Whether an entry stands at the front of some bytes: not cut short, and keeping the rules.
 pub fn is_good_entry(header: Header, front: &[u8]) -> bool
-    ensures { result ≡ goodEntry header front.now }
+    ensures { result ≡ good_entry header front.now }
 {
     if front.len() < field_size(header.version) {
         return false;
@@ -36,7 +36,7 @@ pub fn is_good_entry(header: Header, front: &[u8]) -> bool
 
 // Its size in bytes.
 pub fn size_in(version: u16, front: &[u8]) -> usize
-    ensures { result ≡ sizeIn version front.now }
+    ensures { result ≡ size_in version front.now }
 {
     field_size(version) + 2 * words_in(version, front) as usize
 }
@@ -46,7 +46,7 @@ const MASK_PLACE: usize = 4;
 
 // Where device, seed and the number of words stand.
 fn behind_mask(version: u16) -> usize
-    ensures { result ≡ behindMask version }
+    ensures { result ≡ behind_mask version }
 {
     if version < 2 {
         MASK_PLACE
@@ -68,7 +68,7 @@ fn words_in(version: u16, front: &[u8]) -> u16
 
 // The mask that stands there, or that goes without saying.
 fn mask_in(version: u16, front: &[u8]) -> u16
-    ensures { result ≡ maskIn version front.now }
+    ensures { result ≡ mask_in version front.now }
 {
     let said = join(
         byte_or_zero(front, MASK_PLACE),
@@ -78,8 +78,8 @@ fn mask_in(version: u16, front: &[u8]) -> u16
 }
 
 fn question_in(header: Header, front: &[u8]) -> Question
-    requires { behindMask header.version + 4 ≤ length front.now }
-    ensures { result ≡ askedIn header front.now }
+    requires { behind_mask header.version + 4 ≤ length front.now }
+    ensures { result ≡ asked_in header front.now }
 {
     let kind = front[0];
     let reg = front[1];
@@ -92,8 +92,8 @@ fn question_in(header: Header, front: &[u8]) -> Question
 
 // An entry that is known to stand at a place.
 pub(crate) fn entry_known_at(header: Header, file: &[u8], at: usize) -> Next
-    requires { (at ≤ length file.now) × (goodEntry header (drop at file.now) ≡ true) }
-    ensures { result ≡ placedIn header at (drop at file.now) }
+    requires { (at ≤ length file.now) × (good_entry header (drop at file.now) ≡ true) }
+    ensures { result ≡ placed_in header at (drop at file.now) }
 {
     let words = words_in(header.version, &file[at..]) as usize;
     let question = question_in(header, &file[at..]);

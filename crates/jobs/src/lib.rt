@@ -3,7 +3,7 @@
 pub mod entry;
 
 ghost use Rattle.std.specs.Prelude.{◌≡◌};
-ghost use Rattle.jobs.specs.Format.{headSize, fieldSize};
+ghost use Rattle.jobs.specs.Format.{head_size, field_size};
 ghost use Rattle.jobs.specs.Check.{next_of};
 
 use entry::{entry_known_at, is_good_entry};
@@ -49,21 +49,21 @@ pub enum Next {
 
 // How many bytes stand in front of the first entry.
 pub fn head_size() -> usize
-    ensures { result ≡ headSize }
+    ensures { result ≡ head_size }
 {
     7
 }
 
 // Where the first entry stands: behind the header.
 pub fn first() -> Cursor
-    ensures { result.at ≡ headSize }
+    ensures { result.at ≡ head_size }
 {
     Cursor { at: head_size() }
 }
 
 // How many bytes an entry has in front of its words.
 pub fn field_size(version: u16) -> usize
-    ensures { result ≡ fieldSize version }
+    ensures { result ≡ field_size version }
 {
     if version < 2 { 8 } else { 10 }
 }

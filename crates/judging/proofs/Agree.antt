@@ -3,5 +3,5 @@ use mathlib.Core.Path.{sym, ◌∙◌}
 use Rattle.ground.specs.Agree.{Settled}
 use Rattle.judging.proofs.screen.Reads as screen
 
-pub screen-settled : Settled screen.Post
-screen-settled l given r r' left left' p q = p ∙ sym q
+pub screen_settled : Settled screen.Post
+screen_settled l given r r' left left' p q = p ∙ sym q

@@ -8,45 +8,45 @@ use native.Mathlib.Nat.{eq-zero-or-pos}
 use native.Mathlib.Omega.{arith}
 use lib.ListN.{length, get_or}
 use Rattle.ground.proofs.Test.{and_left, and_right, below_or_not}
-use Rattle.characters.specs.Nibble.{isNibble}
-use Rattle.character_check.specs.Check.{isCharacter}
-use Rattle.character_check.proofs.Pass.{preamble-character, stop-character, nibble-is-character}
-use Rattle.scanning.specs.Place.{firstNoCharacter, firstNoNibble}
+use Rattle.characters.specs.Nibble.{is_nibble}
+use Rattle.character_check.specs.Check.{is_character}
+use Rattle.character_check.proofs.Pass.{preamble_character, stop_character, nibble_is_character}
+use Rattle.scanning.specs.Place.{first_no_character, first_no_nibble}
 use Rattle.scanning.specs.Frame.{framed}
 use Rattle.scanning.specs.declared.Place.TheVariants.{Nowhere}
-use Rattle.scanning.proofs.FirstPlace.{nowhere-passes, passes-nowhere, characters-along, nibbles-along, nibbles-nowhere}
-use Rattle.scanning.proofs.Ends.{first-preamble, last-stop}
+use Rattle.scanning.proofs.FirstPlace.{nowhere_passes, passes_nowhere, characters_along, nibbles_along, nibbles_nowhere}
+use Rattle.scanning.proofs.Ends.{first_preamble, last_stop}
 use Rattle.readings.specs.declared.Screened.TheVariants.{Passed}
-use Rattle.judging.specs.Judge.{screenRows}
-use Rattle.judging.specs.Clean.{WordsSay, isClean}
+use Rattle.judging.specs.Judge.{screen_rows}
+use Rattle.judging.specs.Clean.{WordsSay, is_clean}
 
-module _ (line : List ℕ) (clean : isClean line ≡ true) where
+module _ (line : List ℕ) (clean : is_clean line ≡ true) where
   frame : framed line ≡ true
-  unfolding isClean
+  unfolding is_clean
   frame = and_left (framed line) _ clean
 
-  nibbles : firstNoNibble line ≡ Nowhere
-  unfolding isClean
-  nibbles = nibbles-nowhere line (and_right (framed line) _ clean)
+  nibbles : first_no_nibble line ≡ Nowhere
+  unfolding is_clean
+  nibbles = nibbles_nowhere line (and_right (framed line) _ clean)
 
-  between : (j : ℕ) → 1 ≤ j → j < 1 + (length line - 2) → isNibble (get_or line j 0) ≡ true
-  between = nowhere-passes isNibble line 1 (length line - 2) (sym (nibbles-along line) ∙ nibbles)
+  between : (j : ℕ) → 1 ≤ j → j < 1 + (length line - 2) → is_nibble (get_or line j 0) ≡ true
+  between = nowhere_passes is_nibble line 1 (length line - 2) (sym (nibbles_along line) ∙ nibbles)
 
-  each-character : (j : ℕ) → j < length line → isCharacter (get_or line j 0) ≡ true
-  each-character j inside =
+  each_character : (j : ℕ) → j < length line → is_character (get_or line j 0) ≡ true
+  each_character j inside =
       ⊎_elim
-      (λ (start : j ≡ 0). ap (λ (k : ℕ). isCharacter (get_or line k 0)) start ∙ ap isCharacter (first-preamble line frame) ∙ preamble-character)
+      (λ (start : j ≡ 0). ap (λ (k : ℕ). is_character (get_or line k 0)) start ∙ ap is_character (first_preamble line frame) ∙ preamble_character)
       (λ (later : 1 ≤ j). ⊎_elim
-      (λ (middle : j < 1 + (length line - 2)). nibble-is-character (get_or line j 0) (between j later middle))
+      (λ (middle : j < 1 + (length line - 2)). nibble_is_character (get_or line j 0) (between j later middle))
       (λ (end : 1 + (length line - 2) ≤ j).
       let is : j ≡ length line - 1 = omega arith in
-      ap (λ (k : ℕ). isCharacter (get_or line k 0)) is ∙ ap isCharacter (last-stop line frame) ∙ stop-character)
+      ap (λ (k : ℕ). is_character (get_or line k 0)) is ∙ ap is_character (last_stop line frame) ∙ stop_character)
       (below_or_not j (1 + (length line - 2))))
       (eq-zero-or-pos j)
 
-  characters : firstNoCharacter line ≡ Nowhere
-  characters = characters-along line ∙ passes-nowhere isCharacter line 0 (length line) (λ j lo hi. each-character j (omega arith))
+  characters : first_no_character line ≡ Nowhere
+  characters = characters_along line ∙ passes_nowhere is_character line 0 (length line) (λ j lo hi. each_character j (omega arith))
 
-  pub clean-passes : WordsSay line Passed
-  unfolding screenRows
-  clean-passes q room = simp (characters, frame, nibbles)
+  pub clean_passes : WordsSay line Passed
+  unfolding screen_rows
+  clean_passes q room = simp (characters, frame, nibbles)

@@ -7,40 +7,40 @@ use lib.Dec.{eqb}
 use lib.ListN.{length, get_or}
 use borrow.Author.Tests.{eqb-true}
 use Rattle.lines.specs.Line.{bytes_of}
-use Rattle.questions.specs.Question.{goodQuestion}
+use Rattle.questions.specs.Question.{good_question}
 use Rattle.questions.specs.Shape.{shape_of}
 use Rattle.questions.specs.declared.question.Question as asked
 use Rattle.contents.specs.Rows.{taken_of}
-use Rattle.contents.specs.InOrder.{byteRows, judgeBytes}
+use Rattle.contents.specs.InOrder.{byte_rows, judge_bytes}
 use Rattle.readings.specs.FirstFault.{said}
 use Rattle.readings.specs.declared.Refusal.{Refusal}
 use Rattle.readings.specs.declared.Refusal.TheVariants.{Question, Length}
 use Rattle.readings.specs.declared.Reading.TheVariants.{Refused}
 use Rattle.readings.specs.declared.Screened.{Screened}
 use Rattle.readings.specs.declared.Screened.TheVariants.{Passed, Faulty}
-use Rattle.readings.proofs.FirstFault.{each-passed, asked-is-so, said-joined}
-use Rattle.judging.specs.Judge.{screenRows, rows_of, judgeOf, screenOf}
+use Rattle.readings.proofs.FirstFault.{each_passed, asked_is_so, said_joined}
+use Rattle.judging.specs.Judge.{screen_rows, rows_of, judge_of, screen_of}
 
 module _ (q : asked.Question) (line : List ℕ) (room : ℕ) where
-  screened-first : said (screenOf q line room) (judgeBytes q (bytes_of line)) ≡ judgeOf q line room
-  unfolding judgeOf rows_of screenOf judgeBytes
-  screened-first = sym (said-joined (screenRows q line room) (byteRows q (bytes_of line)) (taken_of q (bytes_of line)))
+  screened_first : said (screen_of q line room) (judge_bytes q (bytes_of line)) ≡ judge_of q line room
+  unfolding judge_of rows_of screen_of judge_bytes
+  screened_first = sym (said_joined (screen_rows q line room) (byte_rows q (bytes_of line)) (taken_of q (bytes_of line)))
 
-  pub turned-is-refused : (why : Refusal) → screenOf q line room ≡ Faulty why → Refused why ≡ judgeOf q line room
-  turned-is-refused why e = ap (λ (s : Screened). said s (judgeBytes q (bytes_of line))) (sym e) ∙ screened-first
+  pub turned_is_refused : (why : Refusal) → screen_of q line room ≡ Faulty why → Refused why ≡ judge_of q line room
+  turned_is_refused why e = ap (λ (s : Screened). said s (judge_bytes q (bytes_of line))) (sym e) ∙ screened_first
 
-  pub passed-is-judged : screenOf q line room ≡ Passed → judgeBytes q (bytes_of line) ≡ judgeOf q line room
-  passed-is-judged e = ap (λ (s : Screened). said s (judgeBytes q (bytes_of line))) (sym e) ∙ screened-first
+  pub passed_is_judged : screen_of q line room ≡ Passed → judge_bytes q (bytes_of line) ≡ judge_of q line room
+  passed_is_judged e = ap (λ (s : Screened). said s (judge_bytes q (bytes_of line))) (sym e) ∙ screened_first
 
-  module _ (passed : screenOf q line room ≡ Passed) where
-    row : (k : ℕ) → get_or (screenRows q line room) k Passed ≡ Passed
-    unfolding screenOf
-    row = each-passed (screenRows q line room) passed
+  module _ (passed : screen_of q line room ≡ Passed) where
+    row : (k : ℕ) → get_or (screen_rows q line room) k Passed ≡ Passed
+    unfolding screen_of
+    row = each_passed (screen_rows q line room) passed
 
-    pub passed-good : goodQuestion q ≡ true
-    unfolding screenRows
-    passed-good = asked-is-so Question (goodQuestion q) (row 0)
+    pub passed_good : good_question q ≡ true
+    unfolding screen_rows
+    passed_good = asked_is_so Question (good_question q) (row 0)
 
     pub passed_words : length line ≡ (shape_of q).words
-    unfolding screenRows
-    passed_words = eqb-true (length line) (shape_of q).words (asked-is-so Length (eqb (length line) (shape_of q).words) (row 2))
+    unfolding screen_rows
+    passed_words = eqb-true (length line) (shape_of q).words (asked_is_so Length (eqb (length line) (shape_of q).words) (row 2))

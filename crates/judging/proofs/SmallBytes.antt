@@ -6,79 +6,79 @@ use native.Mathlib.Omega.{arith}
 use lib.Dec.{eqb, leb}
 use lib.ListN.{length}
 use Rattle.lines.specs.Line.{bytes_of}
-use Rattle.lines.proofs.Line.{bytes-bytes}
-use Rattle.scanning.specs.Place.{firstNoCharacter, firstNoNibble}
+use Rattle.lines.proofs.Line.{bytes_bytes}
+use Rattle.scanning.specs.Place.{first_no_character, first_no_nibble}
 use Rattle.scanning.specs.Frame.{framed}
 use Rattle.scanning.specs.declared.Place.{Place}
 use Rattle.scanning.specs.declared.Place.TheVariants.{At, Nowhere}
-use Rattle.questions.specs.Question.{byForm, goodQuestion}
+use Rattle.questions.specs.Question.{by_form, good_question}
 use Rattle.questions.specs.Shape.{shape_of}
 use Rattle.questions.specs.declared.question.Question as asked
-use Rattle.readings.specs.Reading.{refusalByte, byte_of, count_of}
-use Rattle.readings.specs.FirstFault.{givenUnless, said}
+use Rattle.readings.specs.Reading.{refusal_byte, byte_of, count_of}
+use Rattle.readings.specs.FirstFault.{given_unless, said}
 use Rattle.readings.specs.declared.Refusal.{Refusal}
 use Rattle.readings.specs.declared.Refusal.TheVariants.{Question, Room, Length, Character, Frame, Manchester, Echo, Pec, Alive, Check, Count}
 use Rattle.readings.specs.declared.Reading.{Reading}
 use Rattle.readings.specs.declared.Reading.TheVariants.{Counted, Written, Values}
 use Rattle.readings.specs.declared.Screened.{Screened}
 use Rattle.readings.specs.declared.Screened.TheVariants.{Passed}
-use Rattle.readings.proofs.FirstFault.{first-of-each}
+use Rattle.readings.proofs.FirstFault.{first_of_each}
 use Rattle.readings.proofs.FirstFault.Each.{none, next}
-use Rattle.contents.specs.Rows.{byteIn, echoed, pecRight, aliveRight, checkByte, countRight, taken_of}
-use Rattle.contents.specs.InOrder.{byteRows}
-use Rattle.judging.specs.Judge.{givenAt, screenRows, rows_of, judgeOf}
+use Rattle.contents.specs.Rows.{byte_in, echoed, pec_right, alive_right, check_byte, count_right, taken_of}
+use Rattle.contents.specs.InOrder.{byte_rows}
+use Rattle.judging.specs.Judge.{given_at, screen_rows, rows_of, judge_of}
 
 -- byte and count together, of which no reading has both
-abbrev pub carriedByte : Reading → ℕ
-carriedByte r = byte_of r + count_of r
+abbrev pub carried_byte : Reading → ℕ
+carried_byte r = byte_of r + count_of r
 
 module _ (q : asked.Question) (line : List ℕ) where
-  small-taken : carriedByte (taken_of q (bytes_of line)) < 256
+  small_taken : carried_byte (taken_of q (bytes_of line)) < 256
   unfolding taken_of
-  small-taken = by_kind q.kind
+  small_taken = by_kind q.kind
     where
-      by_kind : (k : ℕ) → carriedByte (byForm k (Counted (byteIn (bytes_of line) 2)) Written (Values (shape_of q).values)) < 256
-      by_kind zero = omega (arith, bytes-bytes line 2)
+      by_kind : (k : ℕ) → carried_byte (by_form k (Counted (byte_in (bytes_of line) 2)) Written (Values (shape_of q).values)) < 256
+      by_kind zero = omega (arith, bytes_bytes line 2)
       by_kind (suc zero) = omega arith
       by_kind (suc (suc zero)) = omega arith
       by_kind (suc (suc (suc zero))) = omega arith
       by_kind (suc (suc (suc (suc k)))) = omega arith
 
-  small-check : checkByte q (bytes_of line) < 256
-  unfolding checkByte
-  small-check = by_kind q.kind
+  small_check : check_byte q (bytes_of line) < 256
+  unfolding check_byte
+  small_check = by_kind q.kind
     where
-      by_kind : (k : ℕ) → byForm k 0 0 (byteIn (bytes_of line) (2 + 2 * (shape_of q).values)) < 256
+      by_kind : (k : ℕ) → by_form k 0 0 (byte_in (bytes_of line) (2 + 2 * (shape_of q).values)) < 256
       by_kind zero = omega arith
       by_kind (suc zero) = omega arith
       by_kind (suc (suc zero)) = omega arith
-      by_kind (suc (suc (suc zero))) = bytes-bytes line (2 + 2 * (shape_of q).values)
-      by_kind (suc (suc (suc (suc k)))) = bytes-bytes line (2 + 2 * (shape_of q).values)
+      by_kind (suc (suc (suc zero))) = bytes_bytes line (2 + 2 * (shape_of q).values)
+      by_kind (suc (suc (suc (suc k)))) = bytes_bytes line (2 + 2 * (shape_of q).values)
 
   abbrev Small : Screened → Type 0
-  Small s = carriedByte (said s (taken_of q (bytes_of line))) < 256
+  Small s = carried_byte (said s (taken_of q (bytes_of line))) < 256
 
-  unless : (why : Refusal) (t : Bool) → refusalByte why < 256 → Small (givenUnless why t)
-  unless why true row = small-taken
+  unless : (why : Refusal) (t : Bool) → refusal_byte why < 256 → Small (given_unless why t)
+  unless why true row = small_taken
   unless why false row = omega arith
 
-  at : (why : ℕ → Refusal) (p : Place) → ((i : ℕ) → refusalByte (why i) < 256) → Small (givenAt why p)
+  at : (why : ℕ → Refusal) (p : Place) → ((i : ℕ) → refusal_byte (why i) < 256) → Small (given_at why p)
   at why (At i) row = omega (arith, row i)
-  at why Nowhere row = small-taken
+  at why Nowhere row = small_taken
 
-  pub small-byte : (room : ℕ) → carriedByte (judgeOf q line room) < 256
-  unfolding judgeOf rows_of screenRows byteRows
-  small-byte room =
-      first-of-each Small small-taken (rows_of q line room)
-      (next (unless Question (goodQuestion q) (omega arith))
+  pub small_byte : (room : ℕ) → carried_byte (judge_of q line room) < 256
+  unfolding judge_of rows_of screen_rows byte_rows
+  small_byte room =
+      first_of_each Small small_taken (rows_of q line room)
+      (next (unless Question (good_question q) (omega arith))
       (next (unless Room (leb (shape_of q).values room) (omega arith))
       (next (unless Length (eqb (length line) (shape_of q).words) (omega arith))
-      (next (at Character (firstNoCharacter line) (λ i. omega arith))
+      (next (at Character (first_no_character line) (λ i. omega arith))
       (next (unless Frame (framed line) (omega arith))
-      (next (at Manchester (firstNoNibble line) (λ i. omega arith))
+      (next (at Manchester (first_no_nibble line) (λ i. omega arith))
       (next (unless Echo (echoed q (bytes_of line)) (omega arith))
-      (next (unless Pec (pecRight q (bytes_of line)) (omega arith))
-      (next (unless Alive (aliveRight q (bytes_of line)) (omega arith))
-      (next (unless (Check (checkByte q (bytes_of line))) (eqb (checkByte q (bytes_of line)) 0) small-check)
-      (next (unless (Count (byteIn (bytes_of line) 2)) (countRight q (bytes_of line)) (bytes-bytes line 2))
+      (next (unless Pec (pec_right q (bytes_of line)) (omega arith))
+      (next (unless Alive (alive_right q (bytes_of line)) (omega arith))
+      (next (unless (Check (check_byte q (bytes_of line))) (eqb (check_byte q (bytes_of line)) 0) small_check)
+      (next (unless (Count (byte_in (bytes_of line) 2)) (count_right q (bytes_of line)) (bytes_bytes line 2))
       none)))))))))))

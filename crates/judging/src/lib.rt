@@ -1,7 +1,7 @@
 // Rows 1 to 6 of document 01's "Turned away", each over the whole line before the next: what is asked of an answer before its bytes are looked at.
 ghost use Rattle.std.specs.Prelude.{◌≡◌};
-ghost use Rattle.judging.specs.Judge.{screenOf};
-ghost use Rattle.judging.specs.Clean.{WordsSay, isClean};
+ghost use Rattle.judging.specs.Judge.{screen_of};
+ghost use Rattle.judging.specs.Clean.{WordsSay, is_clean};
 
 use questions::question::{Question, is_good, shape_of};
 use readings::{Refusal, Screened};
@@ -18,7 +18,7 @@ fn screen_words(line: &[u16]) -> Screened
 }
 
 fn is_clean(line: &[u16]) -> bool
-    ensures { result ≡ isClean line.now }
+    ensures { result ≡ is_clean line.now }
 {
     if !is_framed(line) {
         return false;
@@ -46,7 +46,7 @@ fn screen_in_order(line: &[u16]) -> Screened
 
 // Rows 1 to 6, with room for so many values.
 pub fn screen(q: Question, line: &[u16], room: usize) -> Screened
-    ensures { result ≡ screenOf q line.now room }
+    ensures { result ≡ screen_of q line.now room }
 {
     if !is_good(q) {
         return Screened::Faulty(Refusal::Question);

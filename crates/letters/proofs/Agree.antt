@@ -4,8 +4,8 @@ use Rattle.ground.specs.Agree.{Settled}
 use Rattle.letters.proofs.begin.Reads as begin
 use Rattle.letters.proofs.hear.Reads as hear
 
-pub begin-settled : Settled begin.Post
-begin-settled l given r r' left left' p q = p ∙ sym q
+pub begin_settled : Settled begin.Post
+begin_settled l given r r' left left' p q = p ∙ sym q
 
-pub hear-settled : Settled hear.Post
-hear-settled l given r r' left left' p q = p ∙ sym q
+pub hear_settled : Settled hear.Post
+hear_settled l given r r' left left' p q = p ∙ sym q

@@ -7,14 +7,14 @@ use Rattle.letters.specs.Letters.{Heard}
 use Rattle.letters.specs.Meaning.{None, Last}
 
 -- none of a list passes: none of either part of it does
-pub none-in-parts : {test : Heard → Bool} (xs : List Heard) {ys : List Heard} → None test (xs ++ ys) → None test xs × None test ys
-none-in-parts [] n = (None.none, n)
-none-in-parts (x ∷ xs) (None.more e es fails n) = let parts = none-in-parts xs n in (None.more x xs fails parts.0, parts.1)
+pub none_in_parts : {test : Heard → Bool} (xs : List Heard) {ys : List Heard} → None test (xs ++ ys) → None test xs × None test ys
+none_in_parts [] n = (None.none, n)
+none_in_parts (x ∷ xs) (None.more e es fails n) = let parts = none_in_parts xs n in (None.more x xs fails parts.0, parts.1)
 
 -- none passes, or one is the last
-pub search-last : (test : Heard → Bool) (es : List Heard) → None test es ⊎ Last test es
-search-last test [] = inl None.none
-search-last test (e ∷ es) = ⊎_elim (λ n. here n (test e) refl) (λ l. inr (later l)) (search-last test es)
+pub search_last : (test : Heard → Bool) (es : List Heard) → None test es ⊎ Last test es
+search_last test [] = inl None.none
+search_last test (e ∷ es) = ⊎_elim (λ n. here n (test e) refl) (λ l. inr (later l)) (search_last test es)
   where
     here : None test es → (t : Bool) → test e ≡ t → None test (e ∷ es) ⊎ Last test (e ∷ es)
     here n true passes = inr record { before = []; entry = e; after = es; whole = refl; passes = passes; last = n }

@@ -9,59 +9,59 @@ use native.Mathlib.Omega.{arith}
 use lib.Bits.{bit_and, and_mask}
 use lib.ListN.{get_or}
 use Rattle.questions.specs.Question.{covers}
-use Rattle.masks.specs.Masks.{allBits}
-use Rattle.letters.specs.Letters.{Heard, heardFrom, standingAfter}
-use Rattle.letters.specs.Meaning.{None, Last, goodWrite, decisive, ownValue, shownMasked, shownWhole, Decided, holds, differs, unread, Deserves, AlikeIn}
+use Rattle.masks.specs.Masks.{all_bits}
+use Rattle.letters.specs.Letters.{Heard, heard_from, standing_after}
+use Rattle.letters.specs.Meaning.{None, Last, good_write, decisive, own_value, shown_masked, shown_whole, Decided, holds, differs, unread, Deserves, AlikeIn}
 use Rattle.letters.specs.declared.Standing.{Standing}
-use Rattle.letters.proofs.Entry.{heard, other-entry-keeps-write}
-use Rattle.letters.proofs.SinceTheWrite.{begunBy, from-the-write, since-the-write}
-use Rattle.letters.proofs.AlikeEntries.{SameFor, entry-alike}
+use Rattle.letters.proofs.Entry.{heard, other_entry_keeps_write}
+use Rattle.letters.proofs.SinceTheWrite.{begun_by, from_the_write, since_the_write}
+use Rattle.letters.proofs.AlikeEntries.{SameFor, entry_alike}
 
 -- ---- reads that agree in the masked bits
 
 module _ (a : ℕ) (h : a < 32) where
   -- the mask stays the same as long as no good write comes
-  since-alike : (s s' : Standing) → SameFor a s s' → {es es' : List Heard} → None goodWrite es → Forall₂ (AlikeIn s.mask a) es es'
-      → SameFor a (heardFrom s es) (heardFrom s' es')
-  unfolding heardFrom
-  since-alike s s' same None.none Forall₂.nil = same
-  since-alike s s' same (None.more e es other n) (Forall₂.cons {b = e'} {l₂ = es'} alike rest) =
-      let kept = ap (λ (s : Standing). s.mask) (other-entry-keeps-write s e other) in
-      since-alike (heard s e) (heard s' e') (entry-alike a s s' same e e' alike h) n
+  since_alike : (s s' : Standing) → SameFor a s s' → {es es' : List Heard} → None good_write es → Forall₂ (AlikeIn s.mask a) es es'
+      → SameFor a (heard_from s es) (heard_from s' es')
+  unfolding heard_from
+  since_alike s s' same None.none Forall₂.nil = same
+  since_alike s s' same (None.more e es other n) (Forall₂.cons {b = e'} {l₂ = es'} alike rest) =
+      let kept = ap (λ (s : Standing). s.mask) (other_entry_keeps_write s e other) in
+      since_alike (heard s e) (heard s' e') (entry_alike a s s' same e e' alike h) n
       (subst (λ (mask : ℕ). Forall₂ (AlikeIn mask a) es es') (sym kept) rest)
 
-  pub same-in-masked-bits : (es : List Heard) (w : Last goodWrite es) (before after : List Heard) → Forall₂ (AlikeIn w.entry.mask a) w.after after
-      → (covers (standingAfter es).write a ≡ covers (standingAfter (before ++ (w.entry ∷ after))).write a)
-      × (get_or (standingAfter es).letters a 0 ≡ get_or (standingAfter (before ++ (w.entry ∷ after))).letters a 0)
-  same-in-masked-bits es w before after alike =
-      let start = begunBy w.entry in
-      let same = since-alike start start record { write = refl; letter = refl } w.last alike in
-      let one = since-the-write es w in
-      let other = from-the-write before w.entry after w.passes in
+  pub same_in_masked_bits : (es : List Heard) (w : Last good_write es) (before after : List Heard) → Forall₂ (AlikeIn w.entry.mask a) w.after after
+      → (covers (standing_after es).write a ≡ covers (standing_after (before ++ (w.entry ∷ after))).write a)
+      × (get_or (standing_after es).letters a 0 ≡ get_or (standing_after (before ++ (w.entry ∷ after))).letters a 0)
+  same_in_masked_bits es w before after alike =
+      let start = begun_by w.entry in
+      let same = since_alike start start record { write = refl; letter = refl } w.last alike in
+      let one = since_the_write es w in
+      let other = from_the_write before w.entry after w.passes in
       let covered : Standing → Bool = λ s. covers s.write a in
       let letter : Standing → ℕ = λ s. get_or s.letters a 0 in
       (ap covered one ∙ ap covered same.write ∙ sym (ap covered other), ap letter one ∙ same.letter ∙ sym (ap letter other))
 
 -- ---- all sixteen bits
 
-whole-by-mask : (v w : ℕ) → v < 65536 → w < 65536 → bit_and v allBits ≡ bit_and w allBits → v ≡ w
-whole-by-mask v w small small' same = let rest : v % 65536 ≡ w % 65536 = sym (and_mask v 16) ∙ same ∙ and_mask w 16 in omega arith
+whole_by_mask : (v w : ℕ) → v < 65536 → w < 65536 → bit_and v all_bits ≡ bit_and w all_bits → v ≡ w
+whole_by_mask v w small small' same = let rest : v % 65536 ≡ w % 65536 = sym (and_mask v 16) ∙ same ∙ and_mask w 16 in omega arith
 
 -- a write whose mask is FFFFh is shown in its masked bits exactly where it is shown in all sixteen
-pub all-bits-are-whole : (write : Heard) (value : ℕ) → write.mask ≡ allBits → value < 65536 → write.question.value < 65536
-    → (shownMasked write value → shownWhole write value) × (shownWhole write value → shownMasked write value)
-all-bits-are-whole write value all small written = (
-  λ same. whole-by-mask value write.question.value small written (subst (λ (mask : ℕ). bit_and value mask ≡ bit_and write.question.value mask) all same),
+pub all_bits_are_whole : (write : Heard) (value : ℕ) → write.mask ≡ all_bits → value < 65536 → write.question.value < 65536
+    → (shown_masked write value → shown_whole write value) × (shown_whole write value → shown_masked write value)
+all_bits_are_whole write value all small written = (
+  λ same. whole_by_mask value write.question.value small written (subst (λ (mask : ℕ). bit_and value mask ≡ bit_and write.question.value mask) all same),
   λ same. ap (λ (v : ℕ). bit_and v write.mask) same,
 )
 
 -- a letter is deserved by either of two meanings of 'shown' where they agree on what was written and the read that decides
-pub deserves-by : (Shown Shown' : (write : Heard) → (value : ℕ) → Type 0) (es : List Heard) (a letter : ℕ)
-    → ((w : Last goodWrite es) (r : Last (decisive w.entry.question a) w.after)
-    → (Shown w.entry (ownValue a r.entry) → Shown' w.entry (ownValue a r.entry))
-    × (Shown' w.entry (ownValue a r.entry) → Shown w.entry (ownValue a r.entry)))
+pub deserves_by : (Shown Shown' : (write : Heard) → (value : ℕ) → Type 0) (es : List Heard) (a letter : ℕ)
+    → ((w : Last good_write es) (r : Last (decisive w.entry.question a) w.after)
+    → (Shown w.entry (own_value a r.entry) → Shown' w.entry (own_value a r.entry))
+    × (Shown' w.entry (own_value a r.entry) → Shown w.entry (own_value a r.entry)))
     → Deserves Shown es a letter → Deserves Shown' es a letter
-deserves-by Shown Shown' es a letter agree due = record { write = due.write; covered = due.covered; decided = decided letter due.decided }
+deserves_by Shown Shown' es a letter agree due = record { write = due.write; covered = due.covered; decided = decided letter due.decided }
   where
     decided : (letter : ℕ) → Decided Shown due.write.entry a due.write.after letter → Decided Shown' due.write.entry a due.write.after letter
     decided _ (holds r shown) = holds r ((agree due.write r).0 shown)

@@ -4,11 +4,11 @@
 use Rattle.std.specs.Prelude.{Bool, cond, ◌&&◌, List, [], ◌∷◌, ℕ, eqb, get_or, replicate}
 use Rattle.std.specs.Int.Bits.{bit_and}
 use Rattle.ground.specs.Sweep.{tabulated}
-use Rattle.questions.specs.Question.{asking, helloAll, read_all, goodQuestion, covers}
+use Rattle.questions.specs.Question.{asking, hello_all, read_all, good_question, covers}
 use Rattle.questions.specs.declared.question.Question.{Question}
 use Rattle.readings.specs.declared.Reading.{Reading}
 use Rattle.readings.specs.declared.Reading.TheVariants.{Counted, Written, Values, Refused}
-use Rattle.masks.specs.Masks.{isWrite}
+use Rattle.masks.specs.Masks.{is_write}
 use Rattle.letters.specs.declared.Standing.{Standing}
 
 -- S equal, O other, U no such read: ASCII
@@ -22,12 +22,12 @@ abbrev pub U : ℕ
 U = 0x55
 
 -- a write entry whose question is good
-unfoldable pub isGoodWrite : Question → Bool
-isGoodWrite q = isWrite q.kind && goodQuestion q
+unfoldable pub is_good_write : Question → Bool
+is_good_write q = is_write q.kind && good_question q
 
 -- of the values that a read handed out, device a's own: READALL's come in address order, READDEVICE has one
-unfoldable pub valueFor : Question → (a : ℕ) → (values : List ℕ) → ℕ
-valueFor q a values = get_or values (cond (eqb q.kind read_all) a 0) 0
+unfoldable pub value_for : Question → (a : ℕ) → (values : List ℕ) → ℕ
+value_for q a values = get_or values (cond (eqb q.kind read_all) a 0) 0
 
 -- an accepted read decides the letter of device a where it is a read of the written register, and covers the device, as the write does
 unfoldable pub decides : (write q : Question) → (a : ℕ) → Bool
@@ -38,38 +38,38 @@ abbrev pub verdict : (mask value written : ℕ) → ℕ
 verdict mask value written = cond (eqb (bit_and value mask) (bit_and written mask)) S O
 
 -- device a's letter after an accepted read
-unfoldable pub letterAfter : (write : Question) → (mask : ℕ) → (q : Question) → (a : ℕ) → (values : List ℕ) → (letter : ℕ) → ℕ
-letterAfter write mask q a values letter = cond (decides write q a) (verdict mask (valueFor q a values) write.value) letter
+unfoldable pub letter_after : (write : Question) → (mask : ℕ) → (q : Question) → (a : ℕ) → (values : List ℕ) → (letter : ℕ) → ℕ
+letter_after write mask q a values letter = cond (decides write q a) (verdict mask (value_for q a values) write.value) letter
 
 -- a write starts all its devices at U, and its mask is the one that counts
 abbrev pub unheard : Question → (mask : ℕ) → Standing
 unheard write mask = record { write = write; mask = mask; letters = replicate 32 U }
 
 -- before the first good write: a question that covers no device
-abbrev pub nothingWritten : Question
-nothingWritten = asking helloAll 0 0 0 0 0 0
+abbrev pub nothing_written : Question
+nothing_written = asking hello_all 0 0 0 0 0 0
 
 abbrev pub begun : Standing
-begun = unheard nothingWritten 0
+begun = unheard nothing_written 0
 
 -- each device's letter after an accepted read
 abbrev pub decided : Standing → Question → (values : List ℕ) → Standing
 decided s q values = record {
   write = s.write;
   mask = s.mask;
-  letters = tabulated (λ (a : ℕ). letterAfter s.write s.mask q a values (get_or s.letters a 0)) 32 0;
+  letters = tabulated (λ (a : ℕ). letter_after s.write s.mask q a values (get_or s.letters a 0)) 32 0;
 }
 
 -- only an accepted read has values; a refusal, a write's echo and a count leave the letters as they stand
-abbrev pub byReading : Standing → Question → Reading → (values : List ℕ) → Standing
-byReading s q (Counted n) values = s
-byReading s q Written values = s
-byReading s q (Values m) values = decided s q values
-byReading s q (Refused why) values = s
+abbrev pub by_reading : Standing → Question → Reading → (values : List ℕ) → Standing
+by_reading s q (Counted n) values = s
+by_reading s q Written values = s
+by_reading s q (Values m) values = decided s q values
+by_reading s q (Refused why) values = s
 
 -- one entry; its mask counts where it is a good write
-unfoldable pub hearOf : Standing → Question → (mask : ℕ) → Reading → (values : List ℕ) → Standing
-hearOf s q mask reading values = cond (isGoodWrite q) (unheard q mask) (byReading s q reading values)
+unfoldable pub hear_of : Standing → Question → (mask : ℕ) → Reading → (values : List ℕ) → Standing
+hear_of s q mask reading values = cond (is_good_write q) (unheard q mask) (by_reading s q reading values)
 
 -- what is heard of an entry: its question and mask, what the reader says of its answer, and the values that the reader hands out
 pub record Heard : Type 0 where
@@ -79,10 +79,10 @@ pub record Heard : Type 0 where
   pub values : List ℕ
 
 -- all entries, in their order
-unfoldable pub heardFrom : Standing → List Heard → Standing
-heardFrom s [] = s
-heardFrom s (e ∷ es) = heardFrom (hearOf s e.question e.mask e.reading e.values) es
+unfoldable pub heard_from : Standing → List Heard → Standing
+heard_from s [] = s
+heard_from s (e ∷ es) = heard_from (hear_of s e.question e.mask e.reading e.values) es
 
 -- the letters' standing after a whole job
-abbrev pub standingAfter : List Heard → Standing
-standingAfter es = heardFrom begun es
+abbrev pub standing_after : List Heard → Standing
+standing_after es = heard_from begun es

@@ -8,8 +8,8 @@ abbrev span : (first end : ℕ) → Span
 span first end = record { first = first; end = end }
 
 -- HELLOALL covers none
-abbrev pub spanAt : (kind : ℕ) → Question → Span
-spanAt kind q = by_kind kind (span 0 0) (span 0 q.n) (span q.device (q.device + 1)) (span 0 q.n) (span q.device (q.device + 1))
+abbrev pub span_at : (kind : ℕ) → Question → Span
+span_at kind q = by_kind kind (span 0 0) (span 0 q.n) (span q.device (q.device + 1)) (span 0 q.n) (span q.device (q.device + 1))
 
 unfoldable pub span_of : Question → Span
-span_of q = spanAt q.kind q
+span_of q = span_at q.kind q

@@ -2,7 +2,7 @@
 // whether an accepted read after it showed the value written, in the bits of the write's mask. One step an entry, on a small standing state
 // that goes in and comes back by value.
 ghost use Rattle.std.specs.Prelude.{◌≡◌, max};
-ghost use Rattle.letters.specs.Letters.{isGoodWrite, valueFor, verdict, unheard, decided, hearOf, begun};
+ghost use Rattle.letters.specs.Letters.{is_good_write, value_for, verdict, unheard, decided, hear_of, begun};
 ghost use Rattle.letters.specs.Span.{span_of};
 
 use masks::is_write;
@@ -41,7 +41,7 @@ pub fn hear(
     reading: Reading,
     values: &[u16],
 ) -> Standing
-    ensures { result ≡ hearOf standing q mask reading values.now }
+    ensures { result ≡ hear_of standing q mask reading values.now }
 {
     if is_good_write(q) {
         return all_unheard(q, mask);
@@ -63,7 +63,7 @@ fn all_unheard(write: Question, mask: u16) -> Standing
 }
 
 fn is_good_write(q: Question) -> bool
-    ensures { result ≡ isGoodWrite q }
+    ensures { result ≡ is_good_write q }
 {
     if is_write(q.kind) {
         return is_good(q);
@@ -73,7 +73,7 @@ fn is_good_write(q: Question) -> bool
 
 // Of the values that a read handed out, a device's own: READALL's come in address order, READDEVICE has one; 0 where none was handed out.
 fn value_for(q: Question, device: usize, values: &[u16]) -> u16
-    ensures { result ≡ valueFor q device values.now }
+    ensures { result ≡ value_for q device values.now }
 {
     if q.kind == READALL {
         word_or_zero(values, device)

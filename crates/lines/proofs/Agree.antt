@@ -2,10 +2,10 @@
 use mathlib.Core.Path.{sym, ◌∙◌}
 use Rattle.ground.specs.Agree.{Settled, SettledIn}
 use Rattle.lines.proofs.read.byte_at.Reads as byte_at
-use Rattle.lines.proofs.read.read_bytes.Reads as read-bytes
+use Rattle.lines.proofs.read.read_bytes.Reads as read_bytes
 
-pub byte-at-settled : Settled byte_at.Post
-byte-at-settled l given r r' left left' p q = p ∙ sym q
+pub byte_at_settled : Settled byte_at.Post
+byte_at_settled l given r r' left left' p q = p ∙ sym q
 
-pub read-bytes-settled-out : SettledIn (λ l left. left.1.0.now) read-bytes.Post
-read-bytes-settled-out l given r r' left left' p q = p ∙ sym q
+pub read_bytes_settled_out : SettledIn (λ l left. left.1.0.now) read_bytes.Post
+read_bytes_settled_out l given r r' left left' p q = p ∙ sym q

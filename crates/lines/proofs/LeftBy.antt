@@ -2,13 +2,13 @@
 use mathlib.Core.Path.{◌≡◌, refl}
 use Prim.Native.Nat.{ℕ, zero, suc, ◌≤◌}
 use native.Mathlib.Omega.{arith}
-use Rattle.lines.specs.Write.{leftBy}
+use Rattle.lines.specs.Write.{left_by}
 
 module _ {Memory : Type 0} (written before : Memory) where
-  pub left-written : (number : ℕ) → number ≡ 0 → leftBy number written before ≡ written
-  left-written zero e = refl
-  left-written (suc row) e = absurd (omega arith)
+  pub left_written : (number : ℕ) → number ≡ 0 → left_by number written before ≡ written
+  left_written zero e = refl
+  left_written (suc row) e = absurd (omega arith)
 
-  pub left-as-it-was : (number : ℕ) → 1 ≤ number → leftBy number written before ≡ before
-  left-as-it-was zero away = absurd (omega arith)
-  left-as-it-was (suc row) away = refl
+  pub left_as_it_was : (number : ℕ) → 1 ≤ number → left_by number written before ≡ before
+  left_as_it_was zero away = absurd (omega arith)
+  left_as_it_was (suc row) away = refl

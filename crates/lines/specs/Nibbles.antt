@@ -1,11 +1,11 @@
 -- Nibbles between words and bytes: what many bytes of a line are read through.
 use Rattle.std.specs.Prelude.{ℕ, ◌+◌, ◌*◌, List, get_or}
-use Rattle.characters.specs.Nibble.{trueBits}
+use Rattle.characters.specs.Nibble.{true_bits}
 
 -- the nibble of word k, 0 past the end
-abbrev pub nibbleIn : List ℕ → ℕ → ℕ
-nibbleIn words k = trueBits (get_or words k 0)
+abbrev pub nibble_in : List ℕ → ℕ → ℕ
+nibble_in words k = true_bits (get_or words k 0)
 
 -- byte k of some nibbles, low nibble first
-abbrev pub twoOf : (ℕ → ℕ) → ℕ → ℕ
-twoOf nibble k = nibble (2 * k) + 16 * nibble (2 * k + 1)
+abbrev pub two_of : (ℕ → ℕ) → ℕ → ℕ
+two_of nibble k = nibble (2 * k) + 16 * nibble (2 * k + 1)

@@ -2,16 +2,16 @@
 ghost use Rattle.std.specs.Prelude.{◌≡◌, ℕ, ◌+◌, ◌*◌, ◌≤◌, ◌<◌, length, get_or};
 ghost use Rattle.std.proofs.lemmas.List.Edits.{sets};
 ghost use Rattle.ground.specs.Sweep.{tabulated};
-ghost use Rattle.characters.specs.Nibble.{trueBits};
-ghost use Rattle.lines.specs.Line.{byteAt, bytes_of};
-ghost use Rattle.lines.specs.Nibbles.{nibbleIn, twoOf};
+ghost use Rattle.characters.specs.Nibble.{true_bits};
+ghost use Rattle.lines.specs.Line.{byte_at, bytes_of};
+ghost use Rattle.lines.specs.Nibbles.{nibble_in, two_of};
 
 use characters::true_bits;
 use slices::{least, word_or_zero};
 
 // Byte i of a line; a word past the end reads as 0.
 pub fn byte_at(line: &[u16], i: usize) -> u8
-    ensures { result ≡ byteAt line.now i }
+    ensures { result ≡ byte_at line.now i }
 {
     if line.len() <= i {
         return 0;
@@ -50,7 +50,7 @@ pub fn read_bytes(line: &[u16], out: &mut [u8])
 // does a place look at another's answer, so a compiler takes many at a time.
 fn read_part(words: &[u16], out: &mut [u8])
     requires { (length words.now ≡ 2 * length out.old) × (length out.old ≤ 72) }
-    ensures { out.new ≡ tabulated (twoOf (nibbleIn words.now)) (length out.old) 0 }
+    ensures { out.new ≡ tabulated (two_of (nibble_in words.now)) (length out.old) 0 }
 {
     let mut nibbles = blank_nibbles();
     let end = words.len();
@@ -67,7 +67,7 @@ fn blank_nibbles() -> [u8; 144]
 // The nibble of each word.
 fn put_nibbles(words: &[u16], out: &mut [u8])
     requires { length out.old ≡ length words.now }
-    ensures { out.new ≡ tabulated (nibbleIn words.now) (length words.now) 0 }
+    ensures { out.new ≡ tabulated (nibble_in words.now) (length words.now) 0 }
 {
     let mut k = 0;
     while k < words.len() {
@@ -79,7 +79,7 @@ fn put_nibbles(words: &[u16], out: &mut [u8])
 // The bytes of some nibbles, two by two.
 fn join_nibbles(nibbles: &[u8], out: &mut [u8])
     requires { (length nibbles.now ≡ 2 * length out.old) × ((k : ℕ) → get_or nibbles.now k 0 < 16) }
-    ensures { out.new ≡ tabulated (twoOf (λ i. get_or nibbles.now i 0)) (length out.old) 0 }
+    ensures { out.new ≡ tabulated (two_of (λ i. get_or nibbles.now i 0)) (length out.old) 0 }
 {
     let mut k = 0;
     while k < out.len() {
@@ -99,7 +99,7 @@ fn joined(low: u8, high: u8) -> u8
 
 // The byte of two characters, low nibble first.
 fn two_nibbles(low: u16, high: u16) -> u8
-    ensures { result ≡ trueBits low + 16 * trueBits high }
+    ensures { result ≡ true_bits low + 16 * true_bits high }
 {
     true_bits(low) + 16 * true_bits(high)
 }

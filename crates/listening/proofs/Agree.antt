@@ -3,5 +3,5 @@ use mathlib.Core.Path.{sym, ◌∙◌}
 use Rattle.ground.specs.Agree.{Settled}
 use Rattle.listening.proofs.listen.Reads as listen
 
-pub listen-settled : Settled listen.Post
-listen-settled l given r r' left left' p q = p ∙ sym q
+pub listen_settled : Settled listen.Post
+listen_settled l given r r' left left' p q = p ∙ sym q

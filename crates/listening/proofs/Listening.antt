@@ -14,30 +14,30 @@ use Rattle.jobs.specs.declared.EntryAt.{EntryAt}
 use Rattle.jobs.specs.declared.Cursor.{Cursor}
 use Rattle.jobs.specs.declared.Next.{Next}
 use Rattle.jobs.specs.declared.Next.TheVariants as next
-use Rattle.jobs.specs.Format.{fieldSize}
-use Rattle.jobs.specs.Check.{words_in, sizeIn, goodEntry, next_of}
-use Rattle.jobs.specs.contracts.Next as next-entry
-use Rattle.jobs.proofs.Placed.{no_other, Placed, words-there}
+use Rattle.jobs.specs.Format.{field_size}
+use Rattle.jobs.specs.Check.{words_in, size_in, good_entry, next_of}
+use Rattle.jobs.specs.contracts.Next as next_entry
+use Rattle.jobs.proofs.Placed.{no_other, Placed, words_there}
 use Rattle.letters.specs.declared.Standing.{Standing}
 use Rattle.listening.specs.declared.Listened.{Listened}
-use Rattle.listening.specs.Listening.{heardAs, heardHere, listenedTo, nothingHeard, listenOf}
+use Rattle.listening.specs.Listening.{heard_as, heard_here, listened_to, nothing_heard, listen_of}
 
 module _ (h : Header) (front : List ℕ) (s : Standing) where
   abbrev said : Bool → Listened
-  said t = cond t (listenedTo s (heardHere h front) (sizeIn h.version front)) (nothingHeard s)
+  said t = cond t (listened_to s (heard_here h front) (size_in h.version front)) (nothing_heard s)
 
-  pub nothing-there : (r : Next) → r ≡ next_of h front (record { at = 0 }) → OneOf (1 ∷ 2 ∷ []) (tag_of next-entry.the_type r) → nothingHeard s ≡ listenOf h front s
-  unfolding listenOf
-  nothing-there r says other = sym (ap said (refuted (goodEntry h front) (λ is. absurd (no_other h front 0 is r says other))))
+  pub nothing_there : (r : Next) → r ≡ next_of h front (record { at = 0 }) → OneOf (1 ∷ 2 ∷ []) (tag_of next_entry.the_type r) → nothing_heard s ≡ listen_of h front s
+  unfolding listen_of
+  nothing_there r says other = sym (ap said (refuted (good_entry h front) (λ is. absurd (no_other h front 0 is r says other))))
 
-  pub good-heard : goodEntry h front ≡ true → listenOf h front s ≡ listenedTo s (heardHere h front) (sizeIn h.version front)
-  unfolding listenOf
-  good-heard is = ap said is
+  pub good_heard : good_entry h front ≡ true → listen_of h front s ≡ listened_to s (heard_here h front) (size_in h.version front)
+  unfolding listen_of
+  good_heard is = ap said is
 
-  pub heard-there : (is : goodEntry h front ≡ true) (e : EntryAt) (c : Cursor) → Placed h front 0 is e c
-      → listenedTo s (heardAs e.question e.mask (words_of (take (2 * e.words) (drop e.start front)))) (e.start + 2 * e.words) ≡ listenOf h front s
-  heard-there is e c placed =
-      let size : 0 + fieldSize h.version + 2 * words_in h.version front ≡ sizeIn h.version front = omega arith in
-      ap (λ (x : EntryAt). listenedTo s (heardAs x.question x.mask (words_of (take (2 * x.words) (drop x.start front)))) (x.start + 2 * x.words)) placed.entry
-      ∙ ap₂ (λ (l : List ℕ) (k : ℕ). listenedTo s (heardAs (heardHere h front).question (heardHere h front).mask l) k) (words-there h front 0 is) size
-      ∙ sym (good-heard is)
+  pub heard_there : (is : good_entry h front ≡ true) (e : EntryAt) (c : Cursor) → Placed h front 0 is e c
+      → listened_to s (heard_as e.question e.mask (words_of (take (2 * e.words) (drop e.start front)))) (e.start + 2 * e.words) ≡ listen_of h front s
+  heard_there is e c placed =
+      let size : 0 + field_size h.version + 2 * words_in h.version front ≡ size_in h.version front = omega arith in
+      ap (λ (x : EntryAt). listened_to s (heard_as x.question x.mask (words_of (take (2 * x.words) (drop x.start front)))) (x.start + 2 * x.words)) placed.entry
+      ∙ ap₂ (λ (l : List ℕ) (k : ℕ). listened_to s (heard_as (heard_here h front).question (heard_here h front).mask l) k) (words_there h front 0 is) size
+      ∙ sym (good_heard is)

@@ -2,8 +2,8 @@
 // the letters are brought up to date. Of the reader only its contract is used.
 ghost use Rattle.std.specs.Prelude.{◌≡◌, ◌+◌, ◌*◌, ◌≤◌, length, take, drop};
 ghost use Rattle.packing.specs.Words.{words_of};
-ghost use Rattle.letters.specs.Meaning.{isValues};
-ghost use Rattle.listening.specs.Listening.{heardAs, listenedTo, nothingHeard, listenOf};
+ghost use Rattle.letters.specs.Meaning.{is_values};
+ghost use Rattle.listening.specs.Listening.{heard_as, listened_to, nothing_heard, listen_of};
 
 use jobs::{Cursor, EntryAt, Header, Next, next_entry};
 use letters::{Standing, begin, hear};
@@ -25,7 +25,7 @@ pub struct Listened {
 
 // The entry at the front of some bytes. Where no good one stands there, nothing is heard: FILE's number, the letters as they stood, size 0.
 pub fn listen(header: Header, front: &[u8], standing: Standing) -> Listened
-    ensures { result ≡ listenOf header front.now standing }
+    ensures { result ≡ listen_of header front.now standing }
 {
     let next = next_entry(header, front, Cursor { at: 0 });
     let Next::Entry(entry, _) = next else {
@@ -35,7 +35,7 @@ pub fn listen(header: Header, front: &[u8], standing: Standing) -> Listened
 }
 
 fn hear_nothing(standing: Standing) -> Listened
-    ensures { result ≡ nothingHeard standing }
+    ensures { result ≡ nothing_heard standing }
 {
     let begun = begin();
     let question = begun.write;
@@ -51,7 +51,7 @@ fn hear_nothing(standing: Standing) -> Listened
 // The reader is asked, with room for the values of 32 devices.
 fn hear_entry(front: &[u8], entry: EntryAt, standing: Standing) -> Listened
     requires { (entry.words ≤ 140) × (entry.start + 2 * entry.words ≤ length front.now) }
-    ensures { result ≡ listenedTo standing (heardAs entry.question entry.mask (words_of (take (2 * entry.words) (drop entry.start front.now)))) (entry.start + 2 * entry.words) }
+    ensures { result ≡ listened_to standing (heard_as entry.question entry.mask (words_of (take (2 * entry.words) (drop entry.start front.now)))) (entry.start + 2 * entry.words) }
 {
     let q = entry.question;
     let words = entry.words;
@@ -75,7 +75,7 @@ fn hear_entry(front: &[u8], entry: EntryAt, standing: Standing) -> Listened
 
 // Whether the reader accepted a read.
 fn has_values(reading: Reading) -> bool
-    ensures { result ≡ isValues reading }
+    ensures { result ≡ is_values reading }
 {
     match reading {
         Reading::Counted(_) => false,

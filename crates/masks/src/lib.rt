@@ -1,7 +1,7 @@
 // The mask of an entry of a job file (document 02, M-100): the bits that a write is expected to show. Which kinds are writes, how an entry's mask
 // reads in each version of the file, and which masks keep the rules.
 ghost use Rattle.std.specs.Prelude.{◌≡◌};
-ghost use Rattle.masks.specs.Masks.{isWrite, mask_of, goodMask};
+ghost use Rattle.masks.specs.Masks.{is_write, mask_of, good_mask};
 
 use questions::question::{WRITEALL, WRITEDEVICE};
 
@@ -9,7 +9,7 @@ use questions::question::{WRITEALL, WRITEDEVICE};
 const ALL_BITS: u16 = 0xFFFF;
 
 pub fn is_write(kind: u8) -> bool
-    ensures { result ≡ isWrite kind }
+    ensures { result ≡ is_write kind }
 {
     if kind == WRITEALL {
         return true;
@@ -29,7 +29,7 @@ pub fn mask_of(version: u16, kind: u8, said: u16) -> u16
 
 // Whether a mask keeps the rules: a write's is not 0, and before version 2 all bits; that of the other kinds is 0. FILE is given where it does not.
 pub fn is_good_mask(version: u16, kind: u8, mask: u16) -> bool
-    ensures { result ≡ goodMask version kind mask }
+    ensures { result ≡ good_mask version kind mask }
 {
     if !is_write(kind) {
         return mask == 0;

@@ -1,9 +1,9 @@
 // A job file looked through as a whole (document 01, "Job file and certificate"; document 02, M-100): its length, the mark, a header that keeps its
 // rules, the version among them, and nothing but good entries behind it.
 ghost use Rattle.std.specs.Prelude.{◌≡◌, ◌≤◌, length, drop};
-ghost use Rattle.jobs.specs.Format.{headSize};
-ghost use Rattle.jobs.specs.Rules.{goodHeader};
-ghost use Rattle.jobs.specs.Check.{marked, headerIn, goodEntries, opened_of};
+ghost use Rattle.jobs.specs.Format.{head_size};
+ghost use Rattle.jobs.specs.Rules.{good_header};
+ghost use Rattle.jobs.specs.Check.{marked, header_in, good_entries, opened_of};
 
 use jobs::entry::{is_good_entry, size_in};
 use jobs::{Header, Opened, head_size};
@@ -48,8 +48,8 @@ fn is_marked(file: &[u8]) -> bool
 
 // The header, as it stands there.
 fn header_in(file: &[u8]) -> Header
-    requires { headSize ≤ length file.now }
-    ensures { result ≡ headerIn file.now }
+    requires { head_size ≤ length file.now }
+    ensures { result ≡ header_in file.now }
 {
     let version = join(file[3], file[4]);
     Header {
@@ -60,7 +60,7 @@ fn header_in(file: &[u8]) -> Header
 }
 
 fn is_good_header(header: Header) -> bool
-    ensures { result ≡ goodHeader header }
+    ensures { result ≡ good_header header }
 {
     if header.version < 1 {
         return false;
@@ -79,8 +79,8 @@ fn is_good_header(header: Header) -> bool
 
 // Whether nothing but good entries stands behind the header.
 fn are_good_entries(header: Header, file: &[u8]) -> bool
-    requires { headSize ≤ length file.now }
-    ensures { result ≡ goodEntries header (drop headSize file.now) }
+    requires { head_size ≤ length file.now }
+    ensures { result ≡ good_entries header (drop head_size file.now) }
 {
     let mut at = head_size();
     while at < file.len() {

@@ -4,23 +4,23 @@ use Rattle.ground.specs.Agree.{Settled, SettledIn}
 use Rattle.packing.proofs.unpack.Reads as unpack
 use Rattle.packing.proofs.pack.Reads as pack
 use Rattle.packing.proofs.store.Reads as store
-use Rattle.packing.proofs.take_line.Reads as take-line
+use Rattle.packing.proofs.take_line.Reads as take_line
 use Rattle.packing.proofs.join.Reads as join
 
-pub unpack-settled-out : SettledIn (λ l left. left.1.0.now) unpack.Post
-unpack-settled-out l given r r' left left' p q = p ∙ sym q
+pub unpack_settled_out : SettledIn (λ l left. left.1.0.now) unpack.Post
+unpack_settled_out l given r r' left left' p q = p ∙ sym q
 
-pub pack-settled-out : SettledIn (λ l left. left.1.0.now) pack.Post
-pack-settled-out l given r r' left left' p q = p ∙ sym q
+pub pack_settled_out : SettledIn (λ l left. left.1.0.now) pack.Post
+pack_settled_out l given r r' left left' p q = p ∙ sym q
 
-pub store-settled-out : SettledIn (λ l left. left.0.now) store.Post
-store-settled-out l given r r' left left' p q = p ∙ sym q
+pub store_settled_out : SettledIn (λ l left. left.0.now) store.Post
+store_settled_out l given r r' left left' p q = p ∙ sym q
 
-pub take-line-settled : Settled take-line.Post
-take-line-settled l given r r' left left' p q = p.counts ∙ sym q.counts
+pub take_line_settled : Settled take_line.Post
+take_line_settled l given r r' left left' p q = p.counts ∙ sym q.counts
 
-pub take-line-settled-words : SettledIn (λ l left. left.1.0.now) take-line.Post
-take-line-settled-words l given r r' left left' p q = p.leaves ∙ sym q.leaves
+pub take_line_settled_words : SettledIn (λ l left. left.1.0.now) take_line.Post
+take_line_settled_words l given r r' left left' p q = p.leaves ∙ sym q.leaves
 
-pub join-settled : Settled join.Post
-join-settled l given r r' left left' p q = p ∙ sym q
+pub join_settled : Settled join.Post
+join_settled l given r r' left left' p q = p ∙ sym q

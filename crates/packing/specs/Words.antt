@@ -9,31 +9,31 @@ words_of (b ∷ []) = []
 words_of (low ∷ high ∷ rest) = (low + 256 * high) ∷ words_of rest
 
 -- a word's bytes: low byte, high byte
-abbrev pub lowHigh : ℕ → List ℕ
-lowHigh w = w % 256 ∷ w / 256 ∷ []
+abbrev pub low_high : ℕ → List ℕ
+low_high w = w % 256 ∷ w / 256 ∷ []
 
 -- the bytes of some words
-unfoldable pub asBytes : List ℕ → List ℕ
-asBytes [] = []
-asBytes (w ∷ words) = lowHigh w ++ asBytes words
+unfoldable pub as_bytes : List ℕ → List ℕ
+as_bytes [] = []
+as_bytes (w ∷ words) = low_high w ++ as_bytes words
 
 -- word k of some bytes
-abbrev pub wordAt : List ℕ → (k : ℕ) → ℕ
-wordAt bytes k = get_or bytes (2 * k) 0 + 256 * get_or bytes (2 * k + 1) 0
+abbrev pub word_at : List ℕ → (k : ℕ) → ℕ
+word_at bytes k = get_or bytes (2 * k) 0 + 256 * get_or bytes (2 * k + 1) 0
 
 -- some bytes with one word at its place
-abbrev pub withWord : List ℕ → (k word : ℕ) → List ℕ
-withWord bytes k word = set (set bytes (2 * k) (word % 256)) (2 * k + 1) (word / 256)
+abbrev pub with_word : List ℕ → (k word : ℕ) → List ℕ
+with_word bytes k word = set (set bytes (2 * k) (word % 256)) (2 * k + 1) (word / 256)
 
 -- the words of a line of bytes; an odd number of bytes is as no line at all
-abbrev pub lineOn : (bytes : List ℕ) → List ℕ
-lineOn bytes = cond (eqb (length bytes % 2) 0) (words_of bytes) []
+abbrev pub line_on : (bytes : List ℕ) → List ℕ
+line_on bytes = cond (eqb (length bytes % 2) 0) (words_of bytes) []
 
 -- and where so many words can be held: a line that is too long is as none
-unfoldable pub lineIn : (room : ℕ) → (bytes : List ℕ) → List ℕ
-lineIn room bytes = cond (leb (length (lineOn bytes)) room) (lineOn bytes) []
+unfoldable pub line_in : (room : ℕ) → (bytes : List ℕ) → List ℕ
+line_in room bytes = cond (leb (length (line_on bytes)) room) (line_on bytes) []
 
 -- what `take_line` says and leaves: all as it was, where there is no line
 pub record LineTaken (bytes before after : List ℕ) (r : ℕ) : Type 0 where
-  pub counts : r ≡ length (lineIn (length before) bytes)
-  pub leaves : after ≡ sets before 0 (lineIn (length before) bytes)
+  pub counts : r ≡ length (line_in (length before) bytes)
+  pub leaves : after ≡ sets before 0 (line_in (length before) bytes)

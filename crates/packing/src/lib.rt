@@ -1,7 +1,7 @@
 // Words as bytes, two bytes a word, low first (document 01, "Job file and certificate" and "The C side").
 ghost use Rattle.std.specs.Prelude.{◌≡◌, ◌+◌, ◌*◌, ◌/◌, ◌<◌, length, set, take};
 ghost use Rattle.std.proofs.lemmas.List.Edits.{sets};
-ghost use Rattle.packing.specs.Words.{wordAt, words_of, asBytes, withWord, LineTaken};
+ghost use Rattle.packing.specs.Words.{word_at, words_of, as_bytes, with_word, LineTaken};
 
 use slices::least;
 
@@ -35,7 +35,7 @@ pub fn take_line(bytes: &[u8], words: &mut [u16]) -> usize
 
 fn word_at(bytes: &[u8], k: usize) -> u16
     requires { 2 * k + 1 < length bytes.now }
-    ensures { result ≡ wordAt bytes.now k }
+    ensures { result ≡ word_at bytes.now k }
 {
     join(bytes[2 * k], bytes[2 * k + 1])
 }
@@ -48,7 +48,7 @@ pub fn join(low: u8, high: u8) -> u16
 
 // The bytes of some words at the front of the lent bytes, as many words as there is room for; the rest stays, an odd last byte too.
 pub fn pack(words: &[u16], out: &mut [u8])
-    ensures { out.new ≡ sets out.old 0 (asBytes (take (length out.old / 2) words.now)) }
+    ensures { out.new ≡ sets out.old 0 (as_bytes (take (length out.old / 2) words.now)) }
 {
     let fitting = least(words.len(), out.len() / 2);
     let mut k = 0;
@@ -60,7 +60,7 @@ pub fn pack(words: &[u16], out: &mut [u8])
 
 fn put_bytes(out: &mut [u8], k: usize, word: u16)
     requires { 2 * k + 1 < length out.old }
-    ensures { out.new ≡ withWord out.old k word }
+    ensures { out.new ≡ with_word out.old k word }
 {
     out[2 * k] = (word % 256) as u8;
     out[2 * k + 1] = (word / 256) as u8;

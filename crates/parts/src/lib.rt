@@ -1,6 +1,6 @@
 // The second call: the part of an accepted line that carries a named device's register (document 01, below "Commands and answers").
 ghost use Rattle.std.specs.Prelude.{◌≡◌};
-ghost use Rattle.parts.specs.Part.{order_of, valuesFound, start_of, part_of};
+ghost use Rattle.parts.specs.Part.{order_of, values_found, start_of, part_of};
 
 use questions::question::{Question, READALL, is_covered};
 use reader::read::read;
@@ -35,7 +35,7 @@ pub fn part_start(q: Question, line: &[u16], device: u8) -> usize
 
 // How many values an accepted line carries: there is room for any answer's.
 fn values_found(q: Question, line: &[u16]) -> usize
-    ensures { result ≡ valuesFound q line.now }
+    ensures { result ≡ values_found q line.now }
 {
     let mut values: [u16; 32] = [0; 32];
     values_taken(read(q, line, &mut values))

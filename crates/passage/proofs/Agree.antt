@@ -3,9 +3,9 @@ use mathlib.Core.Path.{sym, ◌∙◌}
 use Rattle.ground.specs.Agree.{Settled, SettledIn}
 use Rattle.passage.proofs.pass.pass.Reads as pass
 
-pub pass-settled : Settled pass.Post
-pass-settled l given r r' left left' p q = p.says ∙ sym q.says
+pub pass_settled : Settled pass.Post
+pass_settled l given r r' left left' p q = p.says ∙ sym q.says
 
 -- the lent line
-pub pass-settled-line : SettledIn (λ l left. left.1.1.1.0.now) pass.Post
-pass-settled-line l given r r' left left' p q = p.leaves ∙ sym q.leaves
+pub pass_settled_line : SettledIn (λ l left. left.1.1.1.0.now) pass.Post
+pass_settled_line l given r r' left left' p q = p.leaves ∙ sym q.leaves

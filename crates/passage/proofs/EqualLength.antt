@@ -6,43 +6,43 @@ use Prim.Native.Nat.{ℕ, suc, ◌+◌, ◌*◌}
 use native.Mathlib.Omega.{arith}
 use lib.ListN.{length, get_or}
 use Rattle.ground.proofs.Same.{same_true}
-use Rattle.ground.proofs.Sweep.{length-tabulated}
+use Rattle.ground.proofs.Sweep.{length_tabulated}
 use Rattle.ground.proofs.Test.{and_left, and_right}
-use Rattle.lines.specs.Line.{byteAt}
-use Rattle.lines.proofs.Line.{length-line}
-use Rattle.questions.proofs.Good.{good-kind}
-use Rattle.hearing.specs.Hear.{isPlace, carried, heard}
-use Rattle.hearing.proofs.Hearing.{heard-good, heard-n, room-for-one, place-below}
-use Rattle.underway.specs.OnTheWay.{wireOf}
-use Rattle.underway.specs.TakeUp.{metBytes, handedBytes}
-use Rattle.underway.proofs.Way.{equal-length}
-use Rattle.passage.specs.Acting.{met, acts, handed, handedOn}
+use Rattle.lines.specs.Line.{byte_at}
+use Rattle.lines.proofs.Line.{length_line}
+use Rattle.questions.proofs.Good.{good_kind}
+use Rattle.hearing.specs.Hear.{is_place, carried, heard}
+use Rattle.hearing.proofs.Hearing.{heard_good, heard_n, room_for_one, place_below}
+use Rattle.underway.specs.OnTheWay.{wire_of}
+use Rattle.underway.specs.TakeUp.{met_bytes, handed_bytes}
+use Rattle.underway.proofs.Way.{equal_length}
+use Rattle.passage.specs.Acting.{met, acts, handed, handed_on}
 
 module _ (n k : ℕ) (line : List ℕ) where
   -- what acting says: the device is one of the chain, and the line is what it should be
-  pub acts-place : acts n k line ≡ true → isPlace n k ≡ true
+  pub acts_place : acts n k line ≡ true → is_place n k ≡ true
   unfolding acts
-  acts-place e = and_left (isPlace n k) _ e
+  acts_place e = and_left (is_place n k) _ e
 
-  pub acts-met : acts n k line ≡ true → line ≡ met n k line
+  pub acts_met : acts n k line ≡ true → line ≡ met n k line
   unfolding acts
-  acts-met e = same_true line (met n k line) (and_right (isPlace n k) _ e)
+  acts_met e = same_true line (met n k line) (and_right (is_place n k) _ e)
 
-  pub handed-size : acts n k line ≡ true → (own : ℕ) → length (handed n k line own) ≡ length line
+  pub handed_size : acts n k line ≡ true → (own : ℕ) → length (handed n k line own) ≡ length line
   unfolding handed met
-  handed-size e own =
+  handed_size e own =
       let q = heard n k line in
       let m = carried q.kind k in
-      let place = acts-place e in
-      let room = room-for-one q k (good-kind q (heard-good n k line place)) (omega (arith, heard-n n k line, (place-below n k place).0)) in
-      length-line (handedBytes q k own m line)
-      ∙ ap (λ (x : ℕ). 2 * x + 2) (equal-length q k (suc k) 0 1 own m (wireOf line m) (length-tabulated (byteAt line) (2 * m) 2) room)
-      ∙ sym (ap length (acts-met e) ∙ length-line (metBytes q k m line))
+      let place = acts_place e in
+      let room = room_for_one q k (good_kind q (heard_good n k line place)) (omega (arith, heard_n n k line, (place_below n k place).0)) in
+      length_line (handed_bytes q k own m line)
+      ∙ ap (λ (x : ℕ). 2 * x + 2) (equal_length q k (suc k) 0 1 own m (wire_of line m) (length_tabulated (byte_at line) (2 * m) 2) room)
+      ∙ sym (ap length (acts_met e) ∙ length_line (met_bytes q k m line))
 
-  pub length-handed : (registers : List ℕ) → length (handedOn n k line registers) ≡ length line
-  unfolding handedOn
-  length-handed registers = by-test (acts n k line) refl
+  pub length_handed : (registers : List ℕ) → length (handed_on n k line registers) ≡ length line
+  unfolding handed_on
+  length_handed registers = by_test (acts n k line) refl
     where
-      by-test : (t : Bool) → acts n k line ≡ t → length (cond t (handed n k line (get_or registers (heard n k line).reg 0)) line) ≡ length line
-      by-test true e = handed-size e (get_or registers (heard n k line).reg 0)
-      by-test false e = refl
+      by_test : (t : Bool) → acts n k line ≡ t → length (cond t (handed n k line (get_or registers (heard n k line).reg 0)) line) ≡ length line
+      by_test true e = handed_size e (get_or registers (heard n k line).reg 0)
+      by_test false e = refl

@@ -2,8 +2,8 @@
 use Rattle.std.specs.Prelude.{Bool, cond, ◌&&◌, List, ℕ, get_or}
 use Rattle.ground.specs.Same.{same}
 use Rattle.lines.specs.Line.{line_of}
-use Rattle.hearing.specs.Hear.{isPlace, carried, heard}
-use Rattle.underway.specs.TakeUp.{metBytes, handedBytes}
+use Rattle.hearing.specs.Hear.{is_place, carried, heard}
+use Rattle.underway.specs.TakeUp.{met_bytes, handed_bytes}
 
 module _ (n k : ℕ) (line : List ℕ) where
   -- how many values stand on the line, if it is the command that it seems
@@ -12,16 +12,16 @@ module _ (n k : ℕ) (line : List ℕ) where
 
   -- the command that the line puts to device k, if any, as the devices before left it
   unfoldable pub met : List ℕ
-  met = line_of (metBytes (heard n k line) k before line)
+  met = line_of (met_bytes (heard n k line) k before line)
 
   -- a device acts only on a line that is some command as the devices before it would have left it
   unfoldable pub acts : Bool
-  acts = isPlace n k && same line met
+  acts = is_place n k && same line met
 
   -- the command as device k hands it on
   unfoldable pub handed : (own : ℕ) → List ℕ
-  handed own = line_of (handedBytes (heard n k line) k own before line)
+  handed own = line_of (handed_bytes (heard n k line) k own before line)
 
   -- any other line, or one for another device, passes unchanged
-  unfoldable pub handedOn : (registers : List ℕ) → List ℕ
-  handedOn registers = cond acts (handed (get_or registers (heard n k line).reg 0)) line
+  unfoldable pub handed_on : (registers : List ℕ) → List ℕ
+  handed_on registers = cond acts (handed (get_or registers (heard n k line).reg 0)) line

@@ -1,6 +1,6 @@
 // One device's step, on its own registers and a line.
 ghost use Rattle.std.specs.Prelude.{◌≡◌};
-ghost use Rattle.passage.specs.Pass.{store_of, changeAsked, Passed};
+ghost use Rattle.passage.specs.Pass.{store_of, change_asked, Passed};
 
 use hearing::{carried_by, hear, is_place};
 use questions::question::{Question, WRITEALL, WRITEDEVICE};
@@ -27,7 +27,7 @@ fn stored(q: Question) -> Change
 
 // Only a write changes a register.
 fn change_asked(q: Question) -> Change
-    ensures { result ≡ changeAsked q }
+    ensures { result ≡ change_asked q }
 {
     let kind = q.kind;
     if kind == WRITEALL {

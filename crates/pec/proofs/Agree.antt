@@ -4,8 +4,8 @@ use Rattle.ground.specs.Agree.{Settled}
 use Rattle.pec.proofs.step.Reads as step
 use Rattle.pec.proofs.pec.Reads as pec
 
-pub step-settled : Settled step.Post
-step-settled l given r r' left left' p q = p ∙ sym q
+pub step_settled : Settled step.Post
+step_settled l given r r' left left' p q = p ∙ sym q
 
-pub pec-settled : Settled pec.Post
-pec-settled l given r r' left left' p q = p ∙ sym q
+pub pec_settled : Settled pec.Post
+pec_settled l given r r' left left' p q = p ∙ sym q

@@ -2,11 +2,11 @@
 use Rattle.std.specs.Prelude.{List, ℕ}
 use Rattle.ground.specs.Sweep.{tabulated}
 use Rattle.remainder.specs.Register.{times}
-use Rattle.pec.specs.Pec.{bitStep}
+use Rattle.pec.specs.Pec.{bit_step}
 
 unfoldable pub moved : ℕ → ℕ
-moved crc = times 32 bitStep crc
+moved crc = times 32 bit_step crc
 
 -- of each of the 256 bytes
-abbrev pub movedTable : List ℕ
-movedTable = tabulated (times 32 bitStep) 256 0
+abbrev pub moved_table : List ℕ
+moved_table = tabulated (times 32 bit_step) 256 0

@@ -10,17 +10,17 @@ abbrev pub poly : ℕ
 poly = 0xB2
 
 -- If (CRCByte AND &H01) = 1 Then CRCByte = (CRCByte / 2) XOR POLY, else CRCByte = CRCByte / 2
-unfoldable pub bitStep : ℕ → ℕ
-bitStep crc = cond (eqb (crc % 2) 1) (bit_xor (crc / 2) poly) (crc / 2)
+unfoldable pub bit_step : ℕ → ℕ
+bit_step crc = cond (eqb (crc % 2) 1) (bit_xor (crc / 2) poly) (crc / 2)
 
 -- CRCByte = CRCByte XOR the byte, then eight bits
-unfoldable pub byteStep : ℕ → ℕ → ℕ
-byteStep crc byte = times 8 bitStep (bit_xor crc byte)
+unfoldable pub byte_step : ℕ → ℕ → ℕ
+byte_step crc byte = times 8 bit_step (bit_xor crc byte)
 
 -- The PEC of some bytes: each of them in its turn, from 0.
-unfoldable pub pecOf : List ℕ → ℕ
-pecOf bytes = run byteStep 0 bytes
+unfoldable pub pec_of : List ℕ → ℕ
+pec_of bytes = run byte_step 0 bytes
 
 -- the remainder of each of the 256 bytes, as the table that document 01 asks for: eight bits of each
-abbrev pub remainderTable : List ℕ
-remainderTable = tabulated (times 8 bitStep) 256 0
+abbrev pub remainder_table : List ℕ
+remainder_table = tabulated (times 8 bit_step) 256 0

@@ -5,28 +5,28 @@ mod table;
 ghost use Rattle.std.specs.Prelude.{◌≡◌, drop};
 ghost use Rattle.std.specs.Int.Bits.{bit_xor};
 ghost use Rattle.remainder.specs.Register.{run};
-ghost use Rattle.pec.specs.Pec.{byteStep, remainderTable, pecOf};
-ghost use Rattle.pec.specs.Moved.{moved, movedTable};
+ghost use Rattle.pec.specs.Pec.{byte_step, remainder_table, pec_of};
+ghost use Rattle.pec.specs.Moved.{moved, moved_table};
 
 use moved::MOVED;
 use table::TABLE;
 
 // The remainders of the 256 bytes. A loop asks for them once: each use of a table lays it out anew.
 fn remainders() -> [u8; 256]
-    ensures { result ≡ remainderTable }
+    ensures { result ≡ remainder_table }
 {
     TABLE
 }
 
 fn moved_states() -> [u8; 256]
-    ensures { result ≡ movedTable }
+    ensures { result ≡ moved_table }
 {
     MOVED
 }
 
 // The PEC so far, with one more byte taken in. For a few bytes these shifts, which do the eight bits at once, cost less than laying out the table.
 pub fn step(crc: u8, byte: u8) -> u8
-    ensures { result ≡ byteStep crc byte }
+    ensures { result ≡ byte_step crc byte }
 {
     let x = (crc ^ byte) as u32;
     let q = (x ^ (x * 4) ^ (x * 16) ^ (x * 32)) & 0xFF;
@@ -34,15 +34,15 @@ pub fn step(crc: u8, byte: u8) -> u8
 }
 
 fn take_in(table: &[u8; 256], crc: u8, byte: u8) -> u8
-    requires { table.now ≡ remainderTable }
-    ensures { result ≡ byteStep crc byte }
+    requires { table.now ≡ remainder_table }
+    ensures { result ≡ byte_step crc byte }
 {
     table[(crc ^ byte) as usize]
 }
 
 // A byte brought together with the one four places before it.
 fn bring_on(table: &[u8; 256], before: u8, byte: u8) -> u8
-    requires { table.now ≡ movedTable }
+    requires { table.now ≡ moved_table }
     ensures { result ≡ bit_xor (moved before) byte }
 {
     table[before as usize] ^ byte
@@ -51,7 +51,7 @@ fn bring_on(table: &[u8; 256], before: u8, byte: u8) -> u8
 // The PEC of some bytes. Four bytes at a time are brought on to the next four, which no byte has to wait for; the last four and what is left
 // behind them are taken in one by one.
 pub fn pec(bytes: &[u8]) -> u8
-    ensures { result ≡ pecOf bytes.now }
+    ensures { result ≡ pec_of bytes.now }
 {
     let remainders = remainders();
     if bytes.len() < 4 {
@@ -76,8 +76,8 @@ pub fn pec(bytes: &[u8]) -> u8
 
 // The bytes from a place on taken in one by one.
 fn take_in_from(table: &[u8; 256], crc: u8, bytes: &[u8], from: usize) -> u8
-    requires { table.now ≡ remainderTable }
-    ensures { result ≡ run byteStep crc (drop from bytes.now) }
+    requires { table.now ≡ remainder_table }
+    ensures { result ≡ run byte_step crc (drop from bytes.now) }
 {
     let mut crc = crc;
     let mut i = from;

@@ -3,9 +3,9 @@ use mathlib.Core.Path.{sym, ◌∙◌}
 use Rattle.ground.specs.Agree.{Settled, SettledIn}
 use Rattle.printing.proofs.print.Reads as print
 
-pub print-settled : Settled print.Post
-print-settled l given r r' left left' p q = p.says ∙ sym q.says
+pub print_settled : Settled print.Post
+print_settled l given r r' left left' p q = p.says ∙ sym q.says
 
 -- the lent text
-pub print-settled-text : SettledIn (λ l left. left.1.1.1.1.0.now) print.Post
-print-settled-text l given r r' left left' p q = p.leaves ∙ sym q.leaves
+pub print_settled_text : SettledIn (λ l left. left.1.1.1.1.0.now) print.Post
+print_settled_text l given r r' left left' p q = p.leaves ∙ sym q.leaves

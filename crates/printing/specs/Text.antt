@@ -8,8 +8,8 @@ use Rattle.letters.specs.declared.Standing.{Standing}
 abbrev pub space : ℕ
 space = 0x20
 
-abbrev pub lineFeed : ℕ
-lineFeed = 0x0A
+abbrev pub line_feed : ℕ
+line_feed = 0x0A
 
 -- one figure of v, unless it would be a zero in front
 abbrev pub figure : (worth v : ℕ) → List ℕ
@@ -20,20 +20,20 @@ unfoldable pub decimal : ℕ → List ℕ
 decimal v = figure 10000 v ++ (figure 1000 v ++ (figure 100 v ++ (figure 10 v ++ ((0x30 + v % 10) ∷ []))))
 
 -- a line's mark, and two numbers with a space between them
-abbrev pub numbersLine : (mark : List ℕ) → (a b : ℕ) → List ℕ
-numbersLine mark a b = mark ++ (decimal a ++ (space ∷ (decimal b ++ (lineFeed ∷ []))))
+abbrev pub numbers_line : (mark : List ℕ) → (a b : ℕ) → List ℕ
+numbers_line mark a b = mark ++ (decimal a ++ (space ∷ (decimal b ++ (line_feed ∷ []))))
 
 -- BMC 1 n, or BMC 2 n: the file's version, and the chain's n
-unfoldable pub headLine : (version n : ℕ) → List ℕ
-headLine version n = numbersLine (0x42 ∷ 0x4D ∷ 0x43 ∷ space ∷ []) version n
+unfoldable pub head_line : (version n : ℕ) → List ℕ
+head_line version n = numbers_line (0x42 ∷ 0x4D ∷ 0x43 ∷ space ∷ []) version n
 
 -- E i r
-unfoldable pub entryLine : (i r : ℕ) → List ℕ
-entryLine i r = numbersLine (0x45 ∷ space ∷ []) i r
+unfoldable pub entry_line : (i r : ℕ) → List ℕ
+entry_line i r = numbers_line (0x45 ∷ space ∷ []) i r
 
 -- D a v
-unfoldable pub deviceLine : (a letter : ℕ) → List ℕ
-deviceLine a letter = 0x44 ∷ space ∷ (decimal a ++ (space ∷ letter ∷ lineFeed ∷ []))
+unfoldable pub device_line : (a letter : ℕ) → List ℕ
+device_line a letter = 0x44 ∷ space ∷ (decimal a ++ (space ∷ letter ∷ line_feed ∷ []))
 
 -- the first k of some lines, one behind the other
 unfoldable pub first_lines : (ℕ → List ℕ) → (k : ℕ) → List ℕ
@@ -41,17 +41,17 @@ first_lines line zero = []
 first_lines line (suc k) = first_lines line k ++ line k
 
 -- one for each entry, counted from 1
-abbrev pub entryLines : (numbers : List ℕ) → List ℕ
-entryLines numbers = first_lines (λ (k : ℕ). entryLine (k + 1) (get_or numbers k 0)) (length numbers)
+abbrev pub entry_lines : (numbers : List ℕ) → List ℕ
+entry_lines numbers = first_lines (λ (k : ℕ). entry_line (k + 1) (get_or numbers k 0)) (length numbers)
 
 -- only a device that the write covers has a line
-abbrev pub deviceLineIf : (write : Question) → (a letter : ℕ) → List ℕ
-deviceLineIf write a letter = cond (covers write a) (deviceLine a letter) []
+abbrev pub device_line_if : (write : Question) → (a letter : ℕ) → List ℕ
+device_line_if write a letter = cond (covers write a) (device_line a letter) []
 
 -- no chain has more than 32 devices
-abbrev pub deviceLines : Standing → List ℕ
-deviceLines s = first_lines (λ (a : ℕ). deviceLineIf s.write a (get_or s.letters a 0)) 32
+abbrev pub device_lines : Standing → List ℕ
+device_lines s = first_lines (λ (a : ℕ). device_line_if s.write a (get_or s.letters a 0)) 32
 
 -- the whole text, for the file's version, the chain's n, a number for each entry, and the letters
-unfoldable pub certificateText : (version n : ℕ) → (numbers : List ℕ) → Standing → List ℕ
-certificateText version n numbers s = headLine version n ++ (entryLines numbers ++ deviceLines s)
+unfoldable pub certificate_text : (version n : ℕ) → (numbers : List ℕ) → Standing → List ℕ
+certificate_text version n numbers s = head_line version n ++ (entry_lines numbers ++ device_lines s)

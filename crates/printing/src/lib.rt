@@ -5,8 +5,8 @@ mod figures;
 mod text_lines;
 
 ghost use Rattle.std.specs.Prelude.{◌≡◌, ◌≤◌, length};
-ghost use Rattle.printing.specs.Text.{certificateText};
-ghost use Rattle.printing.specs.Print.{StoredAt, mostEntries, PrintDone};
+ghost use Rattle.printing.specs.Text.{certificate_text};
+ghost use Rattle.printing.specs.Print.{StoredAt, most_entries, PrintDone};
 
 use letters::Standing;
 use text_lines::{put_devices, put_entries, put_head};
@@ -38,8 +38,8 @@ pub fn print(version: u16, n: u8, numbers: &[u8], standing: Standing, text: &mut
 }
 
 fn lay(version: u16, n: u8, numbers: &[u8], standing: Standing, text: &mut [u8]) -> usize
-    requires { length numbers.now ≤ mostEntries }
-    ensures { StoredAt text.old 0 (certificateText version n numbers.now standing) text.new result }
+    requires { length numbers.now ≤ most_entries }
+    ensures { StoredAt text.old 0 (certificate_text version n numbers.now standing) text.new result }
 {
     let head = put_head(text, version, n);
     let entries = put_entries(text, head, numbers);

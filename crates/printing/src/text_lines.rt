@@ -1,8 +1,8 @@
 // The lines of a certificate (document 01, "Job file and certificate"; document 02, M-100): the first one, one for each entry, one for each device
 // that the write covers.
 ghost use Rattle.std.specs.Prelude.{◌≤◌, length};
-ghost use Rattle.printing.specs.Text.{numbersLine, headLine, entryLine, entryLines, deviceLine, deviceLineIf, deviceLines};
-ghost use Rattle.printing.specs.Print.{StoredAt, mostEntries};
+ghost use Rattle.printing.specs.Text.{numbers_line, head_line, entry_line, entry_lines, device_line, device_line_if, device_lines};
+ghost use Rattle.printing.specs.Print.{StoredAt, most_entries};
 
 use crate::figures::{put, put_all, put_number};
 use letters::Standing;
@@ -10,7 +10,7 @@ use questions::question::{Question, is_covered};
 
 // The file's version, and the chain's n.
 pub(crate) fn put_head(text: &mut [u8], version: u16, n: u8) -> usize
-    ensures { StoredAt text.old 0 (headLine version n) text.new result }
+    ensures { StoredAt text.old 0 (head_line version n) text.new result }
 {
     put_numbers(text, 0, b"BMC ", version as usize, n as usize)
 }
@@ -18,7 +18,7 @@ pub(crate) fn put_head(text: &mut [u8], version: u16, n: u8) -> usize
 // A line of two numbers: its mark, the numbers with a space between them, and the line feed.
 fn put_numbers(text: &mut [u8], at: usize, mark: &[u8], a: usize, b: usize) -> usize
     requires { (at ≤ 200000) × (length mark.now ≤ 100) }
-    ensures { StoredAt text.old at (numbersLine mark.now a b) text.new result }
+    ensures { StoredAt text.old at (numbers_line mark.now a b) text.new result }
 {
     let first = put_all(text, at, mark);
     let space = put_number(text, first, a);
@@ -28,8 +28,8 @@ fn put_numbers(text: &mut [u8], at: usize, mark: &[u8], a: usize, b: usize) -> u
 }
 
 pub(crate) fn put_entries(text: &mut [u8], at: usize, numbers: &[u8]) -> usize
-    requires { (at ≤ 100) × (length numbers.now ≤ mostEntries) }
-    ensures { StoredAt text.old at (entryLines numbers.now) text.new result }
+    requires { (at ≤ 100) × (length numbers.now ≤ most_entries) }
+    ensures { StoredAt text.old at (entry_lines numbers.now) text.new result }
 {
     let mut end = at;
     let mut k = 0;
@@ -42,14 +42,14 @@ pub(crate) fn put_entries(text: &mut [u8], at: usize, numbers: &[u8]) -> usize
 
 fn put_entry(text: &mut [u8], at: usize, i: usize, r: u8) -> usize
     requires { at ≤ 200000 }
-    ensures { StoredAt text.old at (entryLine i r) text.new result }
+    ensures { StoredAt text.old at (entry_line i r) text.new result }
 {
     put_numbers(text, at, b"E ", i, r as usize)
 }
 
 pub(crate) fn put_devices(text: &mut [u8], at: usize, standing: Standing) -> usize
     requires { at ≤ 200000 }
-    ensures { StoredAt text.old at (deviceLines standing) text.new result }
+    ensures { StoredAt text.old at (device_lines standing) text.new result }
 {
     let write = standing.write;
     let letters = standing.letters;
@@ -64,7 +64,7 @@ pub(crate) fn put_devices(text: &mut [u8], at: usize, standing: Standing) -> usi
 
 fn put_device_if(text: &mut [u8], at: usize, write: Question, device: u8, letter: u8) -> usize
     requires { at ≤ 300000 }
-    ensures { StoredAt text.old at (deviceLineIf write device letter) text.new result }
+    ensures { StoredAt text.old at (device_line_if write device letter) text.new result }
 {
     if !is_covered(write, device) {
         return at;
@@ -74,7 +74,7 @@ fn put_device_if(text: &mut [u8], at: usize, write: Question, device: u8, letter
 
 fn put_device(text: &mut [u8], at: usize, device: u8, letter: u8) -> usize
     requires { at ≤ 300000 }
-    ensures { StoredAt text.old at (deviceLine device letter) text.new result }
+    ensures { StoredAt text.old at (device_line device letter) text.new result }
 {
     let mark = put_all(text, at, b"D ");
     let space = put_number(text, mark, device as usize);

@@ -10,66 +10,66 @@ use lib.Count.{ones}
 use lib.ListN.{length, length-append}
 use Rattle.remainder.specs.Register.{run}
 use Rattle.remainder.specs.Turned.{turned, weight, distance, Bytes}
-use Rattle.remainder.proofs.Turned.{no_ones, distance_self, distance-append, distance-turned}
-use Rattle.pec.specs.Pec.{byteStep, pecOf}
-use Rattle.pec.specs.Distance.{apartBy}
-use Rattle.pec.proofs.Distance.{distance-two, distance-three}
+use Rattle.remainder.proofs.Turned.{no_ones, distance_self, distance_append, distance_turned}
+use Rattle.pec.specs.Pec.{byte_step, pec_of}
+use Rattle.pec.specs.Distance.{apart_by}
+use Rattle.pec.proofs.Distance.{distance_two, distance_three}
 use Rattle.lines.specs.Line.{line_of}
-use Rattle.lines.proofs.LineDistance.{line-distance}
-use Rattle.questions.specs.Question.{read_all, goodQuestion}
+use Rattle.lines.proofs.LineDistance.{line_distance}
+use Rattle.questions.specs.Question.{read_all, good_question}
 use Rattle.questions.specs.Shape.{shape_of}
-use Rattle.questions.specs.Bytes.{onWire, aliveByte, sealed, readCovered, answerBytes}
+use Rattle.questions.specs.Bytes.{on_wire, alive_byte, sealed, read_covered, answer_bytes}
 use Rattle.questions.specs.declared.question.Question.{Question}
-use Rattle.questions.proofs.ByKind.{of-read}
-use Rattle.questions.proofs.Good.{good-alive, good-first}
+use Rattle.questions.proofs.ByKind.{of_read}
+use Rattle.questions.proofs.Good.{good_alive, good_first}
 use Rattle.acceptance.specs.Answer.{Registers, Sendable, AllValues}
-use Rattle.questions.proofs.Wire.{length-wire}
-use Rattle.acceptance.proofs.Wire.{bytes-append, bytes-cons, no_bytes, wire-bytes}
-use Rattle.acceptance.proofs.Sealed.{length-sealed, sealed-bytes}
-use Rattle.promises.specs.Demand3.{ReadsAll, answerLine}
+use Rattle.questions.proofs.Wire.{length_wire}
+use Rattle.acceptance.proofs.Wire.{bytes_append, bytes_cons, no_bytes, wire_bytes}
+use Rattle.acceptance.proofs.Sealed.{length_sealed, sealed_bytes}
+use Rattle.promises.specs.Demand3.{ReadsAll, answer_line}
 
 -- the bytes that can differ between two answers to one question: the values and the check byte
 abbrev pub varied : List ℕ → List ℕ
-varied values = onWire values ++ (0 ∷ [])
+varied values = on_wire values ++ (0 ∷ [])
 
-pub length-varied : (values : List ℕ) → length (varied values) ≡ 2 * length values + 1
-length-varied values = omega (arith, length-append (onWire values) (0 ∷ []), length-wire values)
+pub length_varied : (values : List ℕ) → length (varied values) ≡ 2 * length values + 1
+length_varied values = omega (arith, length-append (on_wire values) (0 ∷ []), length_wire values)
 
-pub varied-bytes : (values : List ℕ) → Registers values → Bytes (varied values)
-varied-bytes values r = bytes-append (onWire values) (0 ∷ []) (wire-bytes values r) (bytes-cons 0 [] (omega arith) no_bytes)
+pub varied_bytes : (values : List ℕ) → Registers values → Bytes (varied values)
+varied_bytes values r = bytes_append (on_wire values) (0 ∷ []) (wire_bytes values r) (bytes_cons 0 [] (omega arith) no_bytes)
 
 -- of a READALL with its values, what is said of the question alone
 pub record AsksAll (q : Question) : Type 0 where
   pub kind : q.kind ≡ read_all
-  pub good : goodQuestion q ≡ true
+  pub good : good_question q ≡ true
   pub sends : Sendable q
 
-pub asks-all : (q : Question) (values : List ℕ) → ReadsAll q values → AsksAll q
-asks-all q values all = record { kind = all.kind; good = all.good; sends = all.sends }
+pub asks_all : (q : Question) (values : List ℕ) → ReadsAll q values → AsksAll q
+asks_all q values all = record { kind = all.kind; good = all.good; sends = all.sends }
 
 module _ (q : Question) (asks : AsksAll q) where
   -- the start state that the first two bytes leave, the same for every answer
   unfoldable pub start : ℕ
-  start = byteStep (byteStep 0 (shape_of q).first) q.reg
+  start = byte_step (byte_step 0 (shape_of q).first) q.reg
 
-  pub answer : (values : List ℕ) → answerBytes q values 0 ≡ sealed q (shape_of q).acting (readCovered q values 0)
-  unfolding answerBytes
-  answer values = of-read q.kind _ _ _ (omega (arith, asks.kind))
+  pub answer : (values : List ℕ) → answer_bytes q values 0 ≡ sealed q (shape_of q).acting (read_covered q values 0)
+  unfolding answer_bytes
+  answer values = of_read q.kind _ _ _ (omega (arith, asks.kind))
 
-  pub answer-are-bytes : (values : List ℕ) → Registers values → Bytes (sealed q (shape_of q).acting (readCovered q values 0))
-  answer-are-bytes values r =
-      sealed-bytes q (shape_of q).acting (good-alive q asks.good) (readCovered q values 0)
-      (bytes-cons (shape_of q).first (q.reg ∷ varied values) (good-first q asks.good)
-      (bytes-cons q.reg (varied values) asks.sends.reg (varied-bytes values r)))
+  pub answer_are_bytes : (values : List ℕ) → Registers values → Bytes (sealed q (shape_of q).acting (read_covered q values 0))
+  answer_are_bytes values r =
+      sealed_bytes q (shape_of q).acting (good_alive q asks.good) (read_covered q values 0)
+      (bytes_cons (shape_of q).first (q.reg ∷ varied values) (good_first q asks.good)
+      (bytes_cons q.reg (varied values) asks.sends.reg (varied_bytes values r)))
 
   -- two answers are as far apart as their varied bytes and the two remainders
   apart : (v w : List ℕ) → length v ≡ length w
-      → distance (sealed q (shape_of q).acting (readCovered q v 0)) (sealed q (shape_of q).acting (readCovered q w 0)) ≡ apartBy start (varied v) (varied w)
-  unfolding sealed distance apartBy start pecOf run
+      → distance (sealed q (shape_of q).acting (read_covered q v 0)) (sealed q (shape_of q).acting (read_covered q w 0)) ≡ apart_by start (varied v) (varied w)
+  unfolding sealed distance apart_by start pec_of run
   apart v w e =
-      let same : length (varied v) ≡ length (varied w) = omega (arith, length-varied v, length-varied w) in
-      let alive = aliveByte q (shape_of q).acting in
-      let middle = distance-append (varied v) (varied w) (pecOf (readCovered q v 0) ∷ alive) (pecOf (readCovered q w 0) ∷ alive) same in
+      let same : length (varied v) ≡ length (varied w) = omega (arith, length_varied v, length_varied w) in
+      let alive = alive_byte q (shape_of q).acting in
+      let middle = distance_append (varied v) (varied w) (pec_of (read_covered q v 0) ∷ alive) (pec_of (read_covered q w 0) ∷ alive) same in
       let first : ones (bit_xor (shape_of q).first (shape_of q).first) ≡ 0 = ap ones (xor_self (shape_of q).first) ∙ no_ones in
       let second : ones (bit_xor q.reg q.reg) ≡ 0 = ap ones (xor_self q.reg) ∙ no_ones in
       let last = distance_self alive in
@@ -82,57 +82,57 @@ module _ (q : Question) (asks : AsksAll q) where
     same_number = fits.number ∙ sym fits'.number
 
     same_length : length (varied values) ≡ length (varied other)
-    same_length = omega (arith, length-varied values, length-varied other, same_number)
+    same_length = omega (arith, length_varied values, length_varied other, same_number)
 
-    sealed-long : length (sealed q (shape_of q).acting (readCovered q values 0)) ≡ length (sealed q (shape_of q).acting (readCovered q other 0))
-    sealed-long =
+    sealed_long : length (sealed q (shape_of q).acting (read_covered q values 0)) ≡ length (sealed q (shape_of q).acting (read_covered q other 0))
+    sealed_long =
         omega (
           arith,
-          length-sealed q (shape_of q).acting (good-alive q asks.good) (readCovered q values 0),
-          length-sealed q (shape_of q).acting (good-alive q asks.good) (readCovered q other 0),
-          length-varied values,
-          length-varied other,
+          length_sealed q (shape_of q).acting (good_alive q asks.good) (read_covered q values 0),
+          length_sealed q (shape_of q).acting (good_alive q asks.good) (read_covered q other 0),
+          length_varied values,
+          length_varied other,
           same_number,
         )
 
     -- the two lines differ in twice as many bits as the answers
-    pub lines-apart : distance (answerLine q values) (answerLine q other) ≡ 2 * apartBy start (varied values) (varied other)
-    lines-apart =
+    pub lines_apart : distance (answer_line q values) (answer_line q other) ≡ 2 * apart_by start (varied values) (varied other)
+    lines_apart =
         ap₂ (λ (x y : List ℕ). distance (line_of x) (line_of y)) (answer values) (answer other)
-        ∙ line-distance _ _ sealed-long (answer-are-bytes values fits.registers) (answer-are-bytes other fits'.registers)
+        ∙ line_distance _ _ sealed_long (answer_are_bytes values fits.registers) (answer_are_bytes other fits'.registers)
         ∙ ap (λ (d : ℕ). 2 * d) (apart values other same_number)
 
     -- answers that do not differ are no bits apart
-    together : varied values ≡ varied other → apartBy start (varied values) (varied other) ≡ 0
-    unfolding apartBy
+    together : varied values ≡ varied other → apart_by start (varied values) (varied other) ≡ 0
+    unfolding apart_by
     together e =
-        ap (λ (l : List ℕ). apartBy start (varied values) l) (sym e)
-        ∙ ap₂ ◌+◌ (distance_self (varied values)) (ap ones (xor_self (run byteStep start (varied values))) ∙ no_ones)
+        ap (λ (l : List ℕ). apart_by start (varied values) l) (sym e)
+        ∙ ap₂ ◌+◌ (distance_self (varied values)) (ap ones (xor_self (run byte_step start (varied values))) ∙ no_ones)
 
-    module _ (masks : List ℕ) (every : length masks ≡ length (answerLine q values)) (some : 1 ≤ weight masks)
-        (is_turned : turned (answerLine q values) masks ≡ answerLine q other) where
-      twice : weight masks ≡ 2 * apartBy start (varied values) (varied other)
+    module _ (masks : List ℕ) (every : length masks ≡ length (answer_line q values)) (some : 1 ≤ weight masks)
+        (is_turned : turned (answer_line q values) masks ≡ answer_line q other) where
+      twice : weight masks ≡ 2 * apart_by start (varied values) (varied other)
       twice =
-          sym (distance-turned (answerLine q values) masks every) ∙ ap (distance (answerLine q values)) is_turned ∙ lines-apart
+          sym (distance_turned (answer_line q values) masks every) ∙ ap (distance (answer_line q values)) is_turned ∙ lines_apart
 
       differ : varied values ≡ varied other → ⊥
       differ e = omega (arith, twice, together e)
 
       -- two bits apart at least, and three where they are few: four and six on the line
-      pub four-at-least : 4 ≤ weight masks
-      four-at-least =
+      pub four_at_least : 4 ≤ weight masks
+      four_at_least =
           omega (
             arith,
             twice,
-            distance-two start (varied values) (varied other) same_length (varied-bytes values fits.registers)
-                (varied-bytes other fits'.registers) differ,
+            distance_two start (varied values) (varied other) same_length (varied_bytes values fits.registers)
+                (varied_bytes other fits'.registers) differ,
           )
 
-      pub six-at-least : length values ≤ 14 → 6 ≤ weight masks
-      six-at-least few =
+      pub six_at_least : length values ≤ 14 → 6 ≤ weight masks
+      six_at_least few =
           omega (
             arith,
             twice,
-            distance-three start (varied values) (varied other) same_length (omega (arith, length-varied values))
-                (varied-bytes values fits.registers) (varied-bytes other fits'.registers) differ,
+            distance_three start (varied values) (varied other) same_length (omega (arith, length_varied values))
+                (varied_bytes values fits.registers) (varied_bytes other fits'.registers) differ,
           )

@@ -8,25 +8,25 @@ use lib.Bits.{bit_xor, xor_mod, xor_shr}
 use lib.Count.{ones, ones_cat}
 use lib.ListN.{length}
 use Rattle.remainder.specs.Turned.{turned, weight}
-use Rattle.packing.specs.Words.{asBytes}
+use Rattle.packing.specs.Words.{as_bytes}
 
-pub bytes-turned : (words masks : List ℕ) → length words ≡ length masks → asBytes (turned words masks) ≡ turned (asBytes words) (asBytes masks)
-unfolding turned asBytes
-bytes-turned [] [] e = refl
-bytes-turned [] (m ∷ masks) e = absurd (omega arith)
-bytes-turned (w ∷ words) [] e = absurd (omega arith)
-bytes-turned (w ∷ words) (m ∷ masks) e =
-    ap₂ (λ (x y : ℕ). x ∷ y ∷ asBytes (turned words masks)) (xor_mod w m 8) (xor_shr w m 8)
-    ∙ ap (λ (l : List ℕ). bit_xor (w % 256) (m % 256) ∷ bit_xor (w / 256) (m / 256) ∷ l) (bytes-turned words masks (suc_inj e))
+pub bytes_turned : (words masks : List ℕ) → length words ≡ length masks → as_bytes (turned words masks) ≡ turned (as_bytes words) (as_bytes masks)
+unfolding turned as_bytes
+bytes_turned [] [] e = refl
+bytes_turned [] (m ∷ masks) e = absurd (omega arith)
+bytes_turned (w ∷ words) [] e = absurd (omega arith)
+bytes_turned (w ∷ words) (m ∷ masks) e =
+    ap₂ (λ (x y : ℕ). x ∷ y ∷ as_bytes (turned words masks)) (xor_mod w m 8) (xor_shr w m 8)
+    ∙ ap (λ (l : List ℕ). bit_xor (w % 256) (m % 256) ∷ bit_xor (w / 256) (m / 256) ∷ l) (bytes_turned words masks (suc_inj e))
 
 -- a word's bits are those of its two bytes
-two-bytes-bits : (w : ℕ) → ones (w % 256) + ones (w / 256) ≡ ones w
-two-bytes-bits w =
+two_bytes_bits : (w : ℕ) → ones (w % 256) + ones (w / 256) ≡ ones w
+two_bytes_bits w =
     let bits = ones_cat 8 (w / 256) (w % 256) (omega arith) in
     let whole = ap ones (div-add-mod' w 256) in
     omega arith
 
-pub weight-bytes : (words : List ℕ) → weight (asBytes words) ≡ weight words
-unfolding weight asBytes
-weight-bytes [] = refl
-weight-bytes (w ∷ words) = omega (arith, two-bytes-bits w, weight-bytes words)
+pub weight_bytes : (words : List ℕ) → weight (as_bytes words) ≡ weight words
+unfolding weight as_bytes
+weight_bytes [] = refl
+weight_bytes (w ∷ words) = omega (arith, two_bytes_bits w, weight_bytes words)

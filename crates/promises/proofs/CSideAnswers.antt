@@ -4,44 +4,44 @@ use mathlib.Core.List.{List}
 use Prim.Native.Nat.{ℕ, ◌/◌}
 use native.Mathlib.Omega.{arith}
 use lib.ListN.{length}
-use Rattle.lines.specs.Write.{atFront}
-use Rattle.packing.specs.Words.{asBytes, lineOn}
+use Rattle.lines.specs.Write.{at_front}
+use Rattle.packing.specs.Words.{as_bytes, line_on}
 use Rattle.questions.specs.declared.question.Question.{Question}
 use Rattle.readings.specs.Reading.{number_of}
-use Rattle.judging.specs.Judge.{judgeOf}
-use Rattle.judging.proofs.Accepted.{accepted-takes}
-use Rattle.acceptance.specs.Answer.{reading_of, handedOut}
-use Rattle.acceptance.proofs.AcceptedIsAnAnswer.{accepted-is-an-answer}
-use Rattle.acceptance.proofs.AnswerIsAccepted.{answer-is-accepted, accepted-reading}
-use Rattle.c_reader.specs.ReadBytes.{readingOn, ReadBytesDone}
-use Rattle.promises.specs.ByNumber.{packedNumber}
+use Rattle.judging.specs.Judge.{judge_of}
+use Rattle.judging.proofs.Accepted.{accepted_takes}
+use Rattle.acceptance.specs.Answer.{reading_of, handed_out}
+use Rattle.acceptance.proofs.AcceptedIsAnAnswer.{accepted_is_an_answer}
+use Rattle.acceptance.proofs.AnswerIsAccepted.{answer_is_accepted, accepted_reading}
+use Rattle.c_reader.specs.ReadBytes.{reading_on, ReadBytesDone}
+use Rattle.promises.specs.ByNumber.{packed_number}
 use Rattle.promises.specs.CSide.{PackedAs}
 use Rattle.promises.specs.CSideAnswers.{CSideAnswers}
-use Rattle.promises.proofs.CSideLine.{number-packed}
-use Rattle.promises.proofs.CSidePacked.{packed-as}
+use Rattle.promises.proofs.CSideLine.{number_packed}
+use Rattle.promises.proofs.CSidePacked.{packed_as}
 
 module _ (q : Question) (line before after : List ℕ) (r : ℕ) (done : ReadBytesDone q line before after r) where
-  pub own-number : packedNumber r ≡ number_of (readingOn q line before)
-  own-number = ap packedNumber done.says ∙ number-packed (readingOn q line before)
+  pub own_number : packed_number r ≡ number_of (reading_on q line before)
+  own_number = ap packed_number done.says ∙ number_packed (reading_on q line before)
 
-pub c-side-answers : CSideAnswers
-unfolding readingOn
-c-side-answers q line before = record {
+pub c_side_answers : CSideAnswers
+unfolding reading_on
+c_side_answers q line before = record {
   only_then = λ after r done accepted.
       let room = length before / 2 in
-      let none : number_of (judgeOf q (lineOn line) room) ≡ 0 = sym (own-number q line before after r done) ∙ accepted in
-      let taken = accepted-takes q (lineOn line) room none in
-      let a = accepted-is-an-answer q (lineOn line) room none in (
+      let none : number_of (judge_of q (line_on line) room) ≡ 0 = sym (own_number q line before after r done) ∙ accepted in
+      let taken = accepted_takes q (line_on line) room none in
+      let a = accepted_is_an_answer q (line_on line) room none in (
         a.values,
         record { good = taken.good; room = omega (arith, taken.enough); answer = a.answer },
-        subst (PackedAs r) a.reading (packed-as q line before after r done),
-        done.leaves ∙ ap (λ (l : List ℕ). atFront (asBytes l) before) a.handed,
+        subst (PackedAs r) a.reading (packed_as q line before after r done),
+        done.leaves ∙ ap (λ (l : List ℕ). at_front (as_bytes l) before) a.handed,
       );
-  always-then = λ after r done sends values due.
+  always_then = λ after r done sends values due.
       let room = length before / 2 in
-      let a = answer-is-accepted q due.good sends room (omega (arith, due.room)) values (lineOn line) due.answer in (
-        own-number q line before after r done ∙ ap number_of a.0 ∙ accepted-reading q values due.answer.fitting,
-        subst (PackedAs r) a.0 (packed-as q line before after r done),
-        done.leaves ∙ ap (λ (l : List ℕ). atFront (asBytes l) before) a.1,
+      let a = answer_is_accepted q due.good sends room (omega (arith, due.room)) values (line_on line) due.answer in (
+        own_number q line before after r done ∙ ap number_of a.0 ∙ accepted_reading q values due.answer.fitting,
+        subst (PackedAs r) a.0 (packed_as q line before after r done),
+        done.leaves ∙ ap (λ (l : List ℕ). at_front (as_bytes l) before) a.1,
       );
 }

@@ -5,76 +5,76 @@ use Prim.Native.Nat.{ℕ, ◌*◌, ◌/◌, ◌≤◌}
 use native.Mathlib.Omega.{arith}
 use lib.ListN.{length, replicate, length-replicate}
 use Rattle.remainder.specs.Turned.{turned, weight, Bytes}
-use Rattle.lines.specs.Write.{atFront}
-use Rattle.packing.specs.Words.{words_of, asBytes}
-use Rattle.packing.proofs.Back.{length-bytes, length-words, bytes_back}
+use Rattle.lines.specs.Write.{at_front}
+use Rattle.packing.specs.Words.{words_of, as_bytes}
+use Rattle.packing.proofs.Back.{length_bytes, length_words, bytes_back}
 use Rattle.questions.specs.Shape.{shape_of}
 use Rattle.questions.specs.declared.question.Question.{Question}
-use Rattle.questions.proofs.ByKind.{of-read}
-use Rattle.readings.specs.Reading.{number_of, valuesTaken}
+use Rattle.questions.proofs.ByKind.{of_read}
+use Rattle.readings.specs.Reading.{number_of, values_taken}
 use Rattle.readings.specs.declared.Reading.TheVariants.{Values}
-use Rattle.judging.specs.Judge.{judgeOf}
-use Rattle.reader.specs.Read.{valuesOn}
+use Rattle.judging.specs.Judge.{judge_of}
+use Rattle.reader.specs.Read.{values_on}
 use Rattle.acceptance.specs.Answer.{reading_of}
 use Rattle.acceptance.specs.Answer.Fitting.{read}
-use Rattle.c_reader.specs.ReadBytes.{readingOn, ReadBytesDone}
-use Rattle.promises.specs.ByNumber.{packedNumber}
+use Rattle.c_reader.specs.ReadBytes.{reading_on, ReadBytesDone}
+use Rattle.promises.specs.ByNumber.{packed_number}
 use Rattle.promises.specs.Demand1.{TurnedAway}
-use Rattle.promises.specs.Demand3.{ReadsAll, answerLine, Damage, mostBits}
+use Rattle.promises.specs.Demand3.{ReadsAll, answer_line, Damage, most_bits}
 use Rattle.promises.specs.CSide.{PackedAs}
 use Rattle.promises.specs.CSideDamage.{CSideDamage}
-use Rattle.promises.proofs.RefusedBytes.{refused-read-bytes}
-use Rattle.promises.proofs.Demand3.{values-wanted, all-values, demand-3}
-use Rattle.promises.proofs.CSideLine.{line_on}
-use Rattle.promises.proofs.CSideAnswers.{own-number, c-side-answers}
-use Rattle.promises.proofs.BytesTurned.{bytes-turned, weight-bytes}
+use Rattle.promises.proofs.RefusedBytes.{refused_read_bytes}
+use Rattle.promises.proofs.Demand3.{values_wanted, all_values, demand_3}
+use Rattle.promises.proofs.CSideLine.{line_on_lem}
+use Rattle.promises.proofs.CSideAnswers.{own_number, c_side_answers}
+use Rattle.promises.proofs.BytesTurned.{bytes_turned, weight_bytes}
 
 module _ (q : Question) (values : List ℕ) (all : ReadsAll q values) where
-  taken : (before after : List ℕ) (r : ℕ) → length (asBytes values) ≤ length before → ReadBytesDone q (asBytes (answerLine q values)) before after r
-      → PackedAs r (Values q.n) × (after ≡ atFront (asBytes values) before)
+  taken : (before after : List ℕ) (r : ℕ) → length (as_bytes values) ≤ length before → ReadBytesDone q (as_bytes (answer_line q values)) before after r
+      → PackedAs r (Values q.n) × (after ≡ at_front (as_bytes values) before)
   taken before after r room done =
-      let wanted = values-wanted q all.kind in
+      let wanted = values_wanted q all.kind in
       let reads : 3 ≤ q.kind = omega (arith, all.kind) in
-      let is = (c-side-answers q (asBytes (answerLine q values)) before).always-then after r done all.sends values (record {
+      let is = (c_side_answers q (as_bytes (answer_line q values)) before).always_then after r done all.sends values (record {
         good = all.good;
-        room = omega (arith, wanted, all.number, length-bytes values, room);
-        answer = record { fitting = read reads (omega (arith, all.kind)) (all-values q values all); written = line_on (answerLine q values) };
+        room = omega (arith, wanted, all.number, length_bytes values, room);
+        answer = record { fitting = read reads (omega (arith, all.kind)) (all_values q values all); written = line_on_lem (answer_line q values) };
       }) in (
-        subst (PackedAs r) (of-read q.kind _ _ _ reads ∙ ap Values wanted) is.1,
-        is.2 ∙ ap (λ (l : List ℕ). atFront (asBytes l) before) (of-read q.kind _ _ _ reads),
+        subst (PackedAs r) (of_read q.kind _ _ _ reads ∙ ap Values wanted) is.1,
+        is.2 ∙ ap (λ (l : List ℕ). at_front (as_bytes l) before) (of_read q.kind _ _ _ reads),
       )
 
   -- turned away on words, whatever the output, and so on bytes
-  damaged : (masks : List ℕ) → Damage (answerLine q values) masks (mostBits q.n)
-      → (before after : List ℕ) (r : ℕ) → ReadBytesDone q (asBytes (turned (answerLine q values) masks)) before after r
-      → TurnedAway (packedNumber r) × (after ≡ before)
-  unfolding readingOn
+  damaged : (masks : List ℕ) → Damage (answer_line q values) masks (most_bits q.n)
+      → (before after : List ℕ) (r : ℕ) → ReadBytesDone q (as_bytes (turned (answer_line q values) masks)) before after r
+      → TurnedAway (packed_number r) × (after ≡ before)
+  unfolding reading_on
   damaged masks d before after r done =
-      let line = turned (answerLine q values) masks in
+      let line = turned (answer_line q values) masks in
       let blank = replicate {A = ℕ} (length before / 2) 0 in
-      let judged = judgeOf q line (length blank) in
-      let turned-away = (demand-3.damaged q values all masks d blank (atFront (valuesOn line (valuesTaken judged)) blank) judged
+      let judged = judge_of q line (length blank) in
+      let turned_away = (demand_3.damaged q values all masks d blank (at_front (values_on line (values_taken judged)) blank) judged
       (record { says = refl; leaves = refl })).0 in
-      let same : readingOn q (asBytes line) before ≡ judged =
-      ap₂ (λ (l : List ℕ) (room : ℕ). judgeOf q l room) (line_on line) (sym (length-replicate {A = ℕ} (length before / 2) 0)) in
-      let away : TurnedAway (packedNumber r) = omega (arith, own-number q (asBytes line) before after r done, ap number_of same, turned-away) in
-      (away, refused-read-bytes q (asBytes line) before after r done away)
+      let same : reading_on q (as_bytes line) before ≡ judged =
+      ap₂ (λ (l : List ℕ) (room : ℕ). judge_of q l room) (line_on_lem line) (sym (length-replicate {A = ℕ} (length before / 2) 0)) in
+      let away : TurnedAway (packed_number r) = omega (arith, own_number q (as_bytes line) before after r done, ap number_of same, turned_away) in
+      (away, refused_read_bytes q (as_bytes line) before after r done away)
 
-pub c-side-damage : CSideDamage
-c-side-damage = record { undamaged = taken; damaged = damaged }
+pub c_side_damage : CSideDamage
+c_side_damage = record { undamaged = taken; damaged = damaged }
 
 -- the same of bits turned over in the bytes themselves, one mask a byte: they are as many bits turned over in the words
-pub damaged-bytes : (q : Question) (values : List ℕ) → ReadsAll q values → (masks : List ℕ) → Bytes masks
-    → Damage (asBytes (answerLine q values)) masks (mostBits q.n)
-    → (before after : List ℕ) (r : ℕ) → ReadBytesDone q (turned (asBytes (answerLine q values)) masks) before after r
-    → TurnedAway (packedNumber r) × (after ≡ before)
-damaged-bytes q values all masks small d before after r done =
-    let line = answerLine q values in
+pub damaged_bytes : (q : Question) (values : List ℕ) → ReadsAll q values → (masks : List ℕ) → Bytes masks
+    → Damage (as_bytes (answer_line q values)) masks (most_bits q.n)
+    → (before after : List ℕ) (r : ℕ) → ReadBytesDone q (turned (as_bytes (answer_line q values)) masks) before after r
+    → TurnedAway (packed_number r) × (after ≡ before)
+damaged_bytes q values all masks small d before after r done =
+    let line = answer_line q values in
     let m = words_of masks in
-    let size : length masks ≡ 2 * length line = d.every ∙ length-bytes line in
-    let back : asBytes m ≡ masks = bytes_back masks (length line) size small in
-    let number : length m ≡ length line = omega (arith, length-words masks, size) in
-    let same : weight masks ≡ weight m = ap weight (sym back) ∙ weight-bytes m in
-    let bytes : turned (asBytes line) masks ≡ asBytes (turned line m) = ap (turned (asBytes line)) (sym back) ∙ sym (bytes-turned line m (sym number)) in
-    c-side-damage.damaged q values all m (record { every = number; some = omega (arith, d.some, same); few = omega (arith, d.few, same) }) before after r
+    let size : length masks ≡ 2 * length line = d.every ∙ length_bytes line in
+    let back : as_bytes m ≡ masks = bytes_back masks (length line) size small in
+    let number : length m ≡ length line = omega (arith, length_words masks, size) in
+    let same : weight masks ≡ weight m = ap weight (sym back) ∙ weight_bytes m in
+    let bytes : turned (as_bytes line) masks ≡ as_bytes (turned line m) = ap (turned (as_bytes line)) (sym back) ∙ sym (bytes_turned line m (sym number)) in
+    c_side_damage.damaged q values all m (record { every = number; some = omega (arith, d.some, same); few = omega (arith, d.few, same) }) before after r
     (subst (λ (l : List ℕ). ReadBytesDone q l before after r) bytes done)

@@ -6,18 +6,18 @@ use Prim.Native.Nat.{ℕ, ◌%◌, ◌≤◌}
 use native.Mathlib.Omega.{arith}
 use lib.ListN.{length}
 use borrow.Author.Tests.{eq-eqb}
-use Rattle.packing.specs.Words.{words_of, asBytes, lineOn}
-use Rattle.packing.proofs.Back.{length-bytes}
-use Rattle.readings.specs.Reading.{refusalNumber, number_of}
-use Rattle.readings.specs.Packed.{packedReading}
+use Rattle.packing.specs.Words.{words_of, as_bytes, line_on}
+use Rattle.packing.proofs.Back.{length_bytes}
+use Rattle.readings.specs.Reading.{refusal_number, number_of}
+use Rattle.readings.specs.Packed.{packed_reading}
 use Rattle.readings.specs.declared.Refusal.{Refusal}
 use Rattle.readings.specs.declared.Refusal.TheVariants.{Question, Room, Length, Character, Frame, Manchester, Echo, Pec, Alive, Check, Count}
 use Rattle.readings.specs.declared.Reading.{Reading}
 use Rattle.readings.specs.declared.Reading.TheVariants.{Counted, Written, Values, Refused}
-use Rattle.promises.specs.ByNumber.{packedNumber}
+use Rattle.promises.specs.ByNumber.{packed_number}
 
 -- rows 1 to 11
-pub row_number : (why : Refusal) → (1 ≤ refusalNumber why) × (refusalNumber why ≤ 11)
+pub row_number : (why : Refusal) → (1 ≤ refusal_number why) × (refusal_number why ≤ 11)
 row_number Question = (omega arith, omega arith)
 row_number Room = (omega arith, omega arith)
 row_number Length = (omega arith, omega arith)
@@ -30,18 +30,18 @@ row_number Alive = (omega arith, omega arith)
 row_number (Check b) = (omega arith, omega arith)
 row_number (Count b) = (omega arith, omega arith)
 
-pub number-packed : (reading : Reading) → packedNumber (packedReading reading) ≡ number_of reading
-number-packed (Counted n) = omega arith
-number-packed Written = omega arith
-number-packed (Values m) = omega arith
-number-packed (Refused why) = omega (arith, (row_number why).1)
+pub number_packed : (reading : Reading) → packed_number (packed_reading reading) ≡ number_of reading
+number_packed (Counted n) = omega arith
+number_packed Written = omega arith
+number_packed (Values m) = omega arith
+number_packed (Refused why) = omega (arith, (row_number why).1)
 
-words-again : (words : List ℕ) → words_of (asBytes words) ≡ words
-unfolding words_of asBytes
-words-again [] = refl
-words-again (w ∷ words) = ap₂ (λ (x : ℕ) (l : List ℕ). x ∷ l) (omega arith) (words-again words)
+words_again : (words : List ℕ) → words_of (as_bytes words) ≡ words
+unfolding words_of as_bytes
+words_again [] = refl
+words_again (w ∷ words) = ap₂ (λ (x : ℕ) (l : List ℕ). x ∷ l) (omega arith) (words_again words)
 
-pub line_on : (words : List ℕ) → lineOn (asBytes words) ≡ words
-line_on words =
-    ap (λ (t : Bool). cond t (words_of (asBytes words)) []) (eq-eqb (length (asBytes words) % 2) 0 (omega (arith, length-bytes words)))
-    ∙ words-again words
+pub line_on_lem : (words : List ℕ) → line_on (as_bytes words) ≡ words
+line_on_lem words =
+    ap (λ (t : Bool). cond t (words_of (as_bytes words)) []) (eq-eqb (length (as_bytes words) % 2) 0 (omega (arith, length_bytes words)))
+    ∙ words_again words

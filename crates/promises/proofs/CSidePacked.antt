@@ -5,18 +5,18 @@ use mathlib.Core.List.{List}
 use Prim.Native.Nat.{ℕ, ◌+◌, ◌*◌, ◌/◌, ◌%◌, ◌<◌}
 use native.Mathlib.Omega.{arith}
 use lib.ListN.{length}
-use Rattle.packing.specs.Words.{lineOn}
+use Rattle.packing.specs.Words.{line_on}
 use Rattle.questions.specs.declared.question.Question.{Question}
-use Rattle.readings.specs.Reading.{number_of, place_of, valuesTaken}
-use Rattle.readings.specs.Packed.{packedReading}
+use Rattle.readings.specs.Reading.{number_of, place_of, values_taken}
+use Rattle.readings.specs.Packed.{packed_reading}
 use Rattle.readings.specs.declared.Refusal.TheVariants as row
 use Rattle.readings.specs.declared.Reading.{Reading}
 use Rattle.readings.specs.declared.Reading.TheVariants.{Counted, Written, Values, Refused}
-use Rattle.judging.specs.Judge.{judgeOf}
-use Rattle.judging.proofs.Accepted.{values-fit}
-use Rattle.judging.proofs.Bounds.{place-most}
-use Rattle.judging.proofs.SmallBytes.{carriedByte, small-byte}
-use Rattle.c_reader.specs.ReadBytes.{readingOn, ReadBytesDone}
+use Rattle.judging.specs.Judge.{judge_of}
+use Rattle.judging.proofs.Accepted.{values_fit}
+use Rattle.judging.proofs.Bounds.{place_most}
+use Rattle.judging.proofs.SmallBytes.{carried_byte, small_byte}
+use Rattle.c_reader.specs.ReadBytes.{reading_on, ReadBytesDone}
 use Rattle.promises.specs.CSide.{Parts, PackedAs}
 use Rattle.promises.specs.CSidePacked.{CSidePacked}
 use Rattle.promises.proofs.Rows.{carried}
@@ -34,17 +34,17 @@ as_said is m u = record { number = is.number; middle = is.middle ∙ m; upper = 
 
 -- what must hold of a reading so that nothing of it is lost
 record Whole (reading : Reading) : Type 0 where
-  byte : carriedByte reading < 256
-  upper : place_of reading + valuesTaken reading < 65536
+  byte : carried_byte reading < 256
+  upper : place_of reading + values_taken reading < 65536
 
 packed : (reading : Reading) → Whole reading → number_of reading < 256
-    → Parts (packedReading reading) (number_of reading) (carriedByte reading) (place_of reading + valuesTaken reading)
+    → Parts (packed_reading reading) (number_of reading) (carried_byte reading) (place_of reading + values_taken reading)
 packed reading whole row =
-    let upper = place_of reading + valuesTaken reading in
+    let upper = place_of reading + values_taken reading in
     let uncut : upper % 65536 ≡ upper = omega (arith, whole.upper) in
-    as_said (parts (number_of reading) (carriedByte reading) (upper % 65536) row whole.byte) refl uncut
+    as_said (parts (number_of reading) (carried_byte reading) (upper % 65536) row whole.byte) refl uncut
 
-apart : (reading : Reading) → Whole reading → PackedAs (packedReading reading) reading
+apart : (reading : Reading) → Whole reading → PackedAs (packed_reading reading) reading
 apart (Counted n) whole = as_said (packed (Counted n) whole (omega arith)) (omega arith) (omega arith)
 apart Written whole = as_said (packed Written whole (omega arith)) (omega arith) (omega arith)
 apart (Values m) whole = as_said (packed (Values m) whole (omega arith)) (omega arith) (omega arith)
@@ -60,22 +60,22 @@ apart (Refused row.Alive) whole = as_said (packed (Refused row.Alive) whole (ome
 apart (Refused (row.Check b)) whole = as_said (packed (Refused (row.Check b)) whole (omega arith)) (omega arith) (omega arith)
 apart (Refused (row.Count b)) whole = as_said (packed (Refused (row.Count b)) whole (omega arith)) (omega arith) (omega arith)
 
-whole-reading : (q : Question) (line before : List ℕ) → Whole (readingOn q line before)
-unfolding readingOn
-whole-reading q line before =
+whole_reading : (q : Question) (line before : List ℕ) → Whole (reading_on q line before)
+unfolding reading_on
+whole_reading q line before =
     let room = length before / 2 in
     record {
-      byte = small-byte q (lineOn line) room;
-      upper = omega (arith, place-most q (lineOn line) room, (values-fit q (lineOn line) room).0);
+      byte = small_byte q (line_on line) room;
+      upper = omega (arith, place_most q (line_on line) room, (values_fit q (line_on line) room).0);
     }
 
-pub packed-as : (q : Question) (line before after : List ℕ) (r : ℕ) → ReadBytesDone q line before after r → PackedAs r (readingOn q line before)
-packed-as q line before after r done =
-    let reading = readingOn q line before in
-    subst (λ (x : ℕ). PackedAs x reading) (sym done.says) (apart reading (whole-reading q line before))
+pub packed_as : (q : Question) (line before after : List ℕ) (r : ℕ) → ReadBytesDone q line before after r → PackedAs r (reading_on q line before)
+packed_as q line before after r done =
+    let reading = reading_on q line before in
+    subst (λ (x : ℕ). PackedAs x reading) (sym done.says) (apart reading (whole_reading q line before))
 
-pub c-side-packed : CSidePacked
-unfolding readingOn
-c-side-packed q line before after r done values left reading room read =
-    let same : readingOn q line before ≡ reading = sym (read.says ∙ ap (judgeOf q (lineOn line)) room) in
-    (subst (PackedAs r) same (packed-as q line before after r done), λ why is. carried q (lineOn line) (length before / 2) why (same ∙ is))
+pub c_side_packed : CSidePacked
+unfolding reading_on
+c_side_packed q line before after r done values left reading room read =
+    let same : reading_on q line before ≡ reading = sym (read.says ∙ ap (judge_of q (line_on line)) room) in
+    (subst (PackedAs r) same (packed_as q line before after r done), λ why is. carried q (line_on line) (length before / 2) why (same ∙ is))

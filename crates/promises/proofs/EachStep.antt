@@ -8,44 +8,44 @@ use lib.Dec.{ltb}
 use lib.ListN.{length, get_or, length-set}
 use borrow.Author.Tests.{le-leb, lt-ltb, eq-eqb}
 use Rattle.registers.specs.Memory.{is_chain}
-use Rattle.passage.specs.Pass.{changeOf}
+use Rattle.passage.specs.Pass.{change_of}
 use Rattle.passage.specs.declared.pass.Change.{Change}
 use Rattle.passage.specs.declared.pass.Change.TheVariants.{Nothing, Store}
-use Rattle.twin.specs.Step.{registersOf, withChange, chainWith, hop}
-use Rattle.twin.proofs.Registers.{hop-other}
-use Rattle.twin.proofs.Stepping.{says-handed, leaves-line, leaves-memory, hop-length}
-use Rattle.roundtrip.proofs.NothingByAccident.{by-its-rule, no-command-no-change}
-use Rattle.roundtrip.proofs.RegistersAfter.{file-length, by-rule}
+use Rattle.twin.specs.Step.{registers_of, with_change, chain_with, hop}
+use Rattle.twin.proofs.Registers.{hop_other}
+use Rattle.twin.proofs.Stepping.{says_handed, leaves_line, leaves_memory, hop_length}
+use Rattle.roundtrip.proofs.NothingByAccident.{by_its_rule, no_command_no_change}
+use Rattle.roundtrip.proofs.RegistersAfter.{file_length, by_rule}
 use Rattle.promises.specs.EachStep.{EachStep}
 
 -- row 15 does not turn such a chain away
-pub is-a-chain : (n : ℕ) (memory : List ℕ) → 1 ≤ n → n ≤ 32 → length memory ≡ 256 * n → is_chain n (length memory) ≡ true
-is-a-chain n memory least most words = simp (le-leb 1 n least, le-leb n 32 most, eq-eqb (length memory) (256 * n) words)
+pub is_a_chain : (n : ℕ) (memory : List ℕ) → 1 ≤ n → n ≤ 32 → length memory ≡ 256 * n → is_chain n (length memory) ≡ true
+is_a_chain n memory least most words = simp (le-leb 1 n least, le-leb n 32 most, eq-eqb (length memory) (256 * n) words)
 
 -- no device changes how many registers there are
-registers-kept : (memory : List ℕ) (k : ℕ) (c : Change) → length (withChange memory k c) ≡ length memory
-registers-kept memory k Nothing = refl
-registers-kept memory k (Store x v) = length-set memory (256 * k + x) v
+registers_kept : (memory : List ℕ) (k : ℕ) (c : Change) → length (with_change memory k c) ≡ length memory
+registers_kept memory k Nothing = refl
+registers_kept memory k (Store x v) = length-set memory (256 * k + x) v
 
 pub each_step : EachStep
-each_step n k memory memoryLeft line out outAfter r least most within words room done =
-    let s = chainWith memory line in
-    let chain = is-a-chain n memory (omega arith) (omega arith) (omega arith) in
+each_step n k memory memory_left line out out_after r least most within words room done =
+    let s = chain_with memory line in
+    let chain = is_a_chain n memory (omega arith) (omega arith) (omega arith) in
     let fits : (is_chain n (length memory) && ltb k n) ≡ true = simp (chain, lt-ltb k n (omega arith)) in
-    let left = leaves-memory s (hop n k s) out outAfter memoryLeft r _ done fits room in
+    let left = leaves_memory s (hop n k s) out out_after memory_left r _ done fits room in
     record {
-      says = says-handed s (hop n k s) out outAfter memoryLeft r _ done fits room;
+      says = says_handed s (hop n k s) out out_after memory_left r _ done fits room;
       handed = (hop n k s).line;
-      stands = leaves-line s (hop n k s) out outAfter memoryLeft r _ done fits room;
-      equal-length = hop-length n k s;
-      registers = ap length left ∙ registers-kept memory k (changeOf n k line);
-      on-command = λ c.
-          let rule = by-its-rule n k s c in
-          let file = file-length memory n k words (omega arith) in (
+      stands = leaves_line s (hop n k s) out out_after memory_left r _ done fits room;
+      equal_length = hop_length n k s;
+      registers = ap length left ∙ registers_kept memory k (change_of n k line);
+      on_command = λ c.
+          let rule = by_its_rule n k s c in
+          let file = file_length memory n k words (omega arith) in (
             rule.0,
-            λ x. ap (λ (l : List ℕ). get_or l x 0) (ap (λ (m : List ℕ). registersOf m k) left ∙ rule.1)
-                ∙ by-rule c.question (registersOf memory k) file c.sent.reg x n k c.put,
+            λ x. ap (λ (l : List ℕ). get_or l x 0) (ap (λ (m : List ℕ). registers_of m k) left ∙ rule.1)
+                ∙ by_rule c.question (registers_of memory k) file c.sent.reg x n k c.put,
           );
-      on-another-line = λ none. let same = no-command-no-change n k s none in (same.0, left ∙ same.1);
-      other-devices = λ j differ. ap (λ (m : List ℕ). registersOf m j) left ∙ hop-other n k s j differ;
+      on_another_line = λ none. let same = no_command_no_change n k s none in (same.0, left ∙ same.1);
+      other_devices = λ j differ. ap (λ (m : List ℕ). registers_of m j) left ∙ hop_other n k s j differ;
     }

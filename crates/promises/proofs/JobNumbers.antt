@@ -13,191 +13,191 @@ use borrow.Author.Tests.{leb-true, leb-false}
 use Rattle.ground.proofs.Test.{refuted}
 use Rattle.remainder.specs.Turned.{Bytes}
 use Rattle.readings.specs.Reading.{number_of}
-use Rattle.judging.specs.Judge.{judgeOf}
+use Rattle.judging.specs.Judge.{judge_of}
 use Rattle.jobs.specs.declared.Header.{Header}
-use Rattle.jobs.specs.Format.{Entry, headSize, entryBytes, asked}
+use Rattle.jobs.specs.Format.{Entry, head_size, entry_bytes, asked}
 use Rattle.jobs.specs.declared.Cursor.{Cursor}
 use Rattle.jobs.specs.declared.Opened.TheVariants as opened
 use Rattle.jobs.specs.declared.Next.TheVariants as next
-use Rattle.jobs.specs.Check.{headerIn, sizeIn, entryIn, entriesIn, goodEntry, goodFile, placedIn, opened_of, openedNumber, nextIn, next_of, nextNumber}
+use Rattle.jobs.specs.Check.{header_in, size_in, entry_in, entries_in, good_entry, good_file, placed_in, opened_of, opened_number, next_in, next_of, next_number}
 use Rattle.jobs.specs.Encoded.{Fits, Keeps, Encodes}
-use Rattle.jobs.proofs.Sizes.{head-length}
-use Rattle.jobs.proofs.OneEntry.{entry-back, entry-good, good-is-written, drop-bytes}
-use Rattle.jobs.proofs.GoodFile.{header_read, entries-read, encoded-is-good, good-is-encoded}
+use Rattle.jobs.proofs.Sizes.{head_length}
+use Rattle.jobs.proofs.OneEntry.{entry_back, entry_good, good_is_written, drop_bytes}
+use Rattle.jobs.proofs.GoodFile.{header_read, entries_read, encoded_is_good, good_is_encoded}
 use Rattle.letters.specs.declared.Standing.{Standing}
-use Rattle.printing.specs.Text.{deviceLineIf, certificateText}
-use Rattle.printing.specs.Print.{mostEntries, printedOf, printedNumber}
+use Rattle.printing.specs.Text.{device_line_if, certificate_text}
+use Rattle.printing.specs.Print.{most_entries, printed_of, printed_number}
 use Rattle.printing.specs.declared.Printed.TheVariants as printed
-use Rattle.certificate.specs.Certificate.{certificateOf, certifiedOf, certifiedNumber}
+use Rattle.certificate.specs.Certificate.{certificate_of, certified_of, certified_number}
 use Rattle.certificate.specs.declared.Certified.{Certified}
 use Rattle.certificate.specs.declared.Certified.TheVariants as certified
-use Rattle.certificate.proofs.Answered.{Answered, no-job, no_room, all, answered}
-use Rattle.registers.specs.Memory.{powerOnMemory}
-use Rattle.listening.specs.Listening.{heardHere, listenedTo, nothingHeard, listenOf}
-use Rattle.rehearsal.specs.Rehearsal.{answeredSize, rehearsalOf, rehearsedOf, rehearsedNumber}
+use Rattle.certificate.proofs.Answered.{Answered, no_job, no_room, all, answered}
+use Rattle.registers.specs.Memory.{power_on_memory}
+use Rattle.listening.specs.Listening.{heard_here, listened_to, nothing_heard, listen_of}
+use Rattle.rehearsal.specs.Rehearsal.{answered_size, rehearsal_of, rehearsed_of, rehearsed_number}
 use Rattle.rehearsal.specs.declared.Rehearsed.TheVariants as rehearsed
-use Rattle.rehearsal.proofs.Counting.{rehearsed-size}
-use Rattle.bmc.specs.Exports.{packedCertified, CertificateBytesDone}
+use Rattle.rehearsal.proofs.Counting.{rehearsed_size}
+use Rattle.bmc.specs.Exports.{packed_certified, CertificateBytesDone}
 use Rattle.promises.specs.ByNumber.{row, NumberDue}
-use Rattle.promises.specs.Rows.{readRows}
+use Rattle.promises.specs.Rows.{read_rows}
 use Rattle.promises.specs.Certificate.{lines_of}
-use Rattle.promises.specs.CallRows.{room, NoJobFile, NoEntry, nextRows, certifyRows, AnsweredAbove, rehearseRows}
+use Rattle.promises.specs.CallRows.{room, NoJobFile, NoEntry, next_rows, certify_rows, AnsweredAbove, rehearse_rows}
 use Rattle.promises.proofs.Rows.{by_number}
-use Rattle.promises.proofs.CallsByNumber.{enough-room, short-of-room}
-use Rattle.promises.proofs.Certificate.{text-for, only-text}
+use Rattle.promises.proofs.CallsByNumber.{enough_room, short_of_room}
+use Rattle.promises.proofs.Certificate.{text_for, only_text}
 
 -- a test of the bytes, in place of what it says of them
-pub bad-is-no-job : (file : List ℕ) → goodFile file ≡ false → NoJobFile file
-bad-is-no-job file bad h es encoded = false≢true (sym bad ∙ encoded-is-good h es file encoded)
+pub bad_is_no_job : (file : List ℕ) → good_file file ≡ false → NoJobFile file
+bad_is_no_job file bad h es encoded = false≢true (sym bad ∙ encoded_is_good h es file encoded)
 
-pub good-is-a-job : (file : List ℕ) → Bytes file → goodFile file ≡ true → NoJobFile file → ⊥
-good-is-a-job file small good none = none (headerIn file) (entriesIn (headerIn file).version (drop headSize file)) (good-is-encoded file small good)
+pub good_is_a_job : (file : List ℕ) → Bytes file → good_file file ≡ true → NoJobFile file → ⊥
+good_is_a_job file small good none = none (header_in file) (entries_in (header_in file).version (drop head_size file)) (good_is_encoded file small good)
 
-bad-is-no-entry : (h : Header) (rest : List ℕ) → goodEntry h rest ≡ false → NoEntry h rest
-bad-is-no-entry h rest bad e later fits rules written = false≢true (sym bad ∙ ap (goodEntry h) written ∙ entry-good h e fits rules later)
+bad_is_no_entry : (h : Header) (rest : List ℕ) → good_entry h rest ≡ false → NoEntry h rest
+bad_is_no_entry h rest bad e later fits rules written = false≢true (sym bad ∙ ap (good_entry h) written ∙ entry_good h e fits rules later)
 
-good-is-an-entry : (h : Header) (rest : List ℕ) → Bytes rest → goodEntry h rest ≡ true → NoEntry h rest → ⊥
-good-is-an-entry h rest small good none =
-    let is = good-is-written h rest small good in none (entryIn h.version rest) (drop (sizeIn h.version rest) rest) is.fits is.rules (sym is.again)
+good_is_an_entry : (h : Header) (rest : List ℕ) → Bytes rest → good_entry h rest ≡ true → NoEntry h rest → ⊥
+good_is_an_entry h rest small good none =
+    let is = good_is_written h rest small good in none (entry_in h.version rest) (drop (size_in h.version rest) rest) is.fits is.rules (sym is.again)
 
 -- ---- a file opened, an entry taken out
 
-pub opened-by-number : (file : List ℕ) → Bytes file → NumberDue (row 14 (NoJobFile file) ∷ []) (openedNumber (opened_of file))
+pub opened_by_number : (file : List ℕ) → Bytes file → NumberDue (row 14 (NoJobFile file) ∷ []) (opened_number (opened_of file))
 unfolding opened_of
-opened-by-number file small = by-test (goodFile file) refl
+opened_by_number file small = by_test (good_file file) refl
   where
-    by-test : (good : Bool) → goodFile file ≡ good → NumberDue (row 14 (NoJobFile file) ∷ []) (openedNumber (cond good (opened.Job (headerIn file)) opened.File))
-    by-test true good = inr (good-is-a-job file small good, refl)
-    by-test false bad = inl (bad-is-no-job file bad, refl)
+    by_test : (good : Bool) → good_file file ≡ good → NumberDue (row 14 (NoJobFile file) ∷ []) (opened_number (cond good (opened.Job (header_in file)) opened.File))
+    by_test true good = inr (good_is_a_job file small good, refl)
+    by_test false bad = inl (bad_is_no_job file bad, refl)
 
-pub next-by-number : (h : Header) (file : List ℕ) (c : Cursor) → Bytes file
-    → NumberDue (nextRows h (drop c.at file)) (nextNumber (next_of h file c))
+pub next_by_number : (h : Header) (file : List ℕ) (c : Cursor) → Bytes file
+    → NumberDue (next_rows h (drop c.at file)) (next_number (next_of h file c))
 unfolding next_of
-next-by-number h file c small = by-rest (drop c.at file) (drop-bytes c.at file small)
+next_by_number h file c small = by_rest (drop c.at file) (drop_bytes c.at file small)
   where
-    by-rest : (rest : List ℕ) → Bytes rest → NumberDue (nextRows h rest) (nextNumber (nextIn h c.at rest))
-    by-rest [] few = inr ((λ some. omega (arith, some.0)), refl)
-    by-rest (b ∷ rest) few = by-test (goodEntry h (b ∷ rest)) refl
+    by_rest : (rest : List ℕ) → Bytes rest → NumberDue (next_rows h rest) (next_number (next_in h c.at rest))
+    by_rest [] few = inr ((λ some. omega (arith, some.0)), refl)
+    by_rest (b ∷ rest) few = by_test (good_entry h (b ∷ rest)) refl
       where
-        by-test : (good : Bool) → goodEntry h (b ∷ rest) ≡ good
-            → NumberDue (nextRows h (b ∷ rest)) (nextNumber (cond good (placedIn h c.at (b ∷ rest)) next.File))
-        by-test true good = inr ((λ some. good-is-an-entry h (b ∷ rest) few good some.1), refl)
-        by-test false bad = inl ((omega arith, bad-is-no-entry h (b ∷ rest) bad), refl)
+        by_test : (good : Bool) → good_entry h (b ∷ rest) ≡ good
+            → NumberDue (next_rows h (b ∷ rest)) (next_number (cond good (placed_in h c.at (b ∷ rest)) next.File))
+        by_test true good = inr ((λ some. good_is_an_entry h (b ∷ rest) few good some.1), refl)
+        by_test false bad = inl ((omega arith, bad_is_no_entry h (b ∷ rest) bad), refl)
 
 -- ---- an entry heard
 
-pub listened-by-number : (h : Header) (e : Entry) (later : List ℕ) (s : Standing) → Fits h.version e → Keeps h e
-    → NumberDue (readRows (asked h e) e.words 32) (listenOf h (entryBytes h.version e ++ later) s).number
-unfolding listenOf
-listened-by-number h e later s fits rules = subst (NumberDue (readRows (asked h e) e.words 32)) (sym heard) (by_number (asked h e) e.words 32)
+pub listened_by_number : (h : Header) (e : Entry) (later : List ℕ) (s : Standing) → Fits h.version e → Keeps h e
+    → NumberDue (read_rows (asked h e) e.words 32) (listen_of h (entry_bytes h.version e ++ later) s).number
+unfolding listen_of
+listened_by_number h e later s fits rules = subst (NumberDue (read_rows (asked h e) e.words 32)) (sym heard) (by_number (asked h e) e.words 32)
   where
     front : List ℕ
-    front = entryBytes h.version e ++ later
+    front = entry_bytes h.version e ++ later
 
     number : Entry → ℕ
-    number x = number_of (judgeOf (asked h x) x.words 32)
+    number x = number_of (judge_of (asked h x) x.words 32)
 
-    heard : (listenOf h front s).number ≡ number e
+    heard : (listen_of h front s).number ≡ number e
     heard =
-        ap (λ (t : Bool). (cond t (listenedTo s (heardHere h front) (sizeIn h.version front)) (nothingHeard s)).number) (entry-good h e fits rules later)
-        ∙ ap number (entry-back h e fits rules later)
+        ap (λ (t : Bool). (cond t (listened_to s (heard_here h front) (size_in h.version front)) (nothing_heard s)).number) (entry_good h e fits rules later)
+        ∙ ap number (entry_back h e fits rules later)
 
-pub nothing-by-number : (h : Header) (front : List ℕ) (s : Standing) → Bytes front → NoEntry h front
-    → NumberDue (row 14 (NoEntry h front) ∷ []) (listenOf h front s).number
-unfolding listenOf
-nothing-by-number h front s small none =
-    let bad = refuted (goodEntry h front) (λ good. good-is-an-entry h front small good none) in
-    inl (none, ap (λ (t : Bool). (cond t (listenedTo s (heardHere h front) (sizeIn h.version front)) (nothingHeard s)).number) bad)
+pub nothing_by_number : (h : Header) (front : List ℕ) (s : Standing) → Bytes front → NoEntry h front
+    → NumberDue (row 14 (NoEntry h front) ∷ []) (listen_of h front s).number
+unfolding listen_of
+nothing_by_number h front s small none =
+    let bad = refuted (good_entry h front) (λ good. good_is_an_entry h front small good none) in
+    inl (none, ap (λ (t : Bool). (cond t (listened_to s (heard_here h front) (size_in h.version front)) (nothing_heard s)).number) bad)
 
 -- ---- a text printed
 
-text-by-number : (version n : ℕ) (numbers : List ℕ) (s : Standing) (text : List ℕ)
-    → NumberDue (row 14 (mostEntries < length numbers) ∷ room (length text) (length (certificateText version n numbers s)) ∷ []) (printedNumber (printedOf version n numbers s text))
-unfolding printedOf
-text-by-number version n numbers s text = by_tests (leb (length numbers) mostEntries) refl (leb bytes (length text)) refl
+text_by_number : (version n : ℕ) (numbers : List ℕ) (s : Standing) (text : List ℕ)
+    → NumberDue (row 14 (most_entries < length numbers) ∷ room (length text) (length (certificate_text version n numbers s)) ∷ []) (printed_number (printed_of version n numbers s text))
+unfolding printed_of
+text_by_number version n numbers s text = by_tests (leb (length numbers) most_entries) refl (leb bytes (length text)) refl
   where
     bytes : ℕ
-    bytes = length (certificateText version n numbers s)
+    bytes = length (certificate_text version n numbers s)
 
-    by_tests : (few : Bool) → leb (length numbers) mostEntries ≡ few → (fits : Bool) → leb bytes (length text) ≡ fits
-        → NumberDue (row 14 (mostEntries < length numbers) ∷ room (length text) bytes ∷ []) (printedNumber (cond few (cond fits (printed.Bytes bytes) printed.Room) printed.Many))
-    by_tests false many fits f = inl (leb-false (length numbers) mostEntries many, refl)
-    by_tests true few true fits = inr ((λ many. omega (arith, leb-true (length numbers) mostEntries few)), enough-room (length text) bytes fits)
-    by_tests true few false short = inr ((λ many. omega (arith, leb-true (length numbers) mostEntries few)), short-of-room (length text) bytes short)
+    by_tests : (few : Bool) → leb (length numbers) most_entries ≡ few → (fits : Bool) → leb bytes (length text) ≡ fits
+        → NumberDue (row 14 (most_entries < length numbers) ∷ room (length text) bytes ∷ []) (printed_number (cond few (cond fits (printed.Bytes bytes) printed.Room) printed.Many))
+    by_tests false many fits f = inl (leb-false (length numbers) most_entries many, refl)
+    by_tests true few true fits = inr ((λ many. omega (arith, leb-true (length numbers) most_entries few)), enough_room (length text) bytes fits)
+    by_tests true few false short = inr ((λ many. omega (arith, leb-true (length numbers) most_entries few)), short_of_room (length text) bytes short)
 
-pub printed-by-number : (version n : ℕ) (numbers : List ℕ) (s : Standing) (text : List ℕ)
-    → NumberDue (row 14 (mostEntries < length numbers) ∷ room (length text) (length (lines_of version n numbers (λ a. deviceLineIf s.write a (get_or s.letters a 0)))) ∷ [])
-    (printedNumber (printedOf version n numbers s text))
-unfolding certificateText
-printed-by-number = text-by-number
+pub printed_by_number : (version n : ℕ) (numbers : List ℕ) (s : Standing) (text : List ℕ)
+    → NumberDue (row 14 (most_entries < length numbers) ∷ room (length text) (length (lines_of version n numbers (λ a. device_line_if s.write a (get_or s.letters a 0)))) ∷ [])
+    (printed_number (printed_of version n numbers s text))
+unfolding certificate_text
+printed_by_number = text_by_number
 
 -- ---- the certificate
 
-pub certified-by-number : (file before : List ℕ) → Bytes file
-    → NumberDue (certifyRows file (length before)) (certifiedNumber (certifiedOf file before))
-certified-by-number file before small = by_answer (certifiedOf file before) (answered file before)
+pub certified_by_number : (file before : List ℕ) → Bytes file
+    → NumberDue (certify_rows file (length before)) (certified_number (certified_of file before))
+certified_by_number file before small = by_answer (certified_of file before) (answered file before)
   where
-    by_answer : (c : Certified) → Answered file before c → NumberDue (certifyRows file (length before)) (certifiedNumber c)
-    by_answer _ (no-job bad) = inl (bad-is-no-job file bad, refl)
+    by_answer : (c : Certified) → Answered file before c → NumberDue (certify_rows file (length before)) (certified_number c)
+    by_answer _ (no_job bad) = inl (bad_is_no_job file bad, refl)
     by_answer _ (no_room good over) =
-        let text = text-for _ _ file (good-is-encoded file small good) in
-        inr (good-is-a-job file small good, inl ((certificateOf file, text, omega (arith, over)), refl))
+        let text = text_for _ _ file (good_is_encoded file small good) in
+        inr (good_is_a_job file small good, inl ((certificate_of file, text, omega (arith, over)), refl))
     by_answer _ (all good room) =
-        inr (good-is-a-job file small good, inr (λ over. omega (arith, room, ap length (only-text file over.0 over.1), over.2), refl))
+        inr (good_is_a_job file small good, inr (λ over. omega (arith, room, ap length (only_text file over.0 over.1), over.2), refl))
 
 -- of C's call in the lowest eight bits
-pub packed-number : (file before after : List ℕ) (r : ℕ) → CertificateBytesDone file before after r → r % 256 ≡ certifiedNumber (certifiedOf file before)
-packed-number file before after r done = ap (λ (k : ℕ). k % 256) done.says ∙ own-number (certifiedOf file before)
+pub packed_number : (file before after : List ℕ) (r : ℕ) → CertificateBytesDone file before after r → r % 256 ≡ certified_number (certified_of file before)
+packed_number file before after r done = ap (λ (k : ℕ). k % 256) done.says ∙ own_number (certified_of file before)
   where
-    own-number : (c : Certified) → packedCertified c % 256 ≡ certifiedNumber c
-    own-number (certified.Bytes n) = omega arith
-    own-number certified.File = refl
-    own-number certified.Room = refl
+    own_number : (c : Certified) → packed_certified c % 256 ≡ certified_number c
+    own_number (certified.Bytes n) = omega arith
+    own_number certified.File = refl
+    own_number certified.Room = refl
 
-pub certificate-bytes-by-number : (file before after : List ℕ) (r : ℕ) → Bytes file → CertificateBytesDone file before after r
-    → NumberDue (certifyRows file (length before)) (r % 256)
-certificate-bytes-by-number file before after r small done =
-    subst (NumberDue (certifyRows file (length before))) (sym (packed-number file before after r done))
-    (certified-by-number file before small)
+pub certificate_bytes_by_number : (file before after : List ℕ) (r : ℕ) → Bytes file → CertificateBytesDone file before after r
+    → NumberDue (certify_rows file (length before)) (r % 256)
+certificate_bytes_by_number file before after r small done =
+    subst (NumberDue (certify_rows file (length before))) (sym (packed_number file before after r done))
+    (certified_by_number file before small)
 
 -- ---- the rehearsal
 
-answered-bytes : (h : Header) (es : List Entry) (file : List ℕ) → Encodes h es file → length (rehearsalOf file) ≡ headSize + answeredSize h es
-unfolding rehearsalOf
-answered-bytes h es file encoded =
-    let g = headerIn file in
-    let read = entriesIn g.version (drop headSize file) in
-    let same : answeredSize g read ≡ answeredSize h es = ap₂ answeredSize (header_read h es file encoded) (entries-read h es file encoded) in
-    omega (arith, rehearsed-size g (powerOnMemory g.n) read, same, head-length g)
+answered_bytes : (h : Header) (es : List Entry) (file : List ℕ) → Encodes h es file → length (rehearsal_of file) ≡ head_size + answered_size h es
+unfolding rehearsal_of
+answered_bytes h es file encoded =
+    let g = header_in file in
+    let read = entries_in g.version (drop head_size file) in
+    let same : answered_size g read ≡ answered_size h es = ap₂ answered_size (header_read h es file encoded) (entries_read h es file encoded) in
+    omega (arith, rehearsed_size g (power_on_memory g.n) read, same, head_length g)
 
 -- the length of the answered file, in place of what it says of the encoded entries
-above : (file : List ℕ) (most : ℕ) → Bytes file → goodFile file ≡ true → most < length (rehearsalOf file) → AnsweredAbove file most
+above : (file : List ℕ) (most : ℕ) → Bytes file → good_file file ≡ true → most < length (rehearsal_of file) → AnsweredAbove file most
 above file most small good over =
-    let encoded = good-is-encoded file small good in
-    let bytes = answered-bytes (headerIn file) (entriesIn (headerIn file).version (drop headSize file)) file encoded in
-    (headerIn file, entriesIn (headerIn file).version (drop headSize file), encoded, omega (arith, bytes, over))
+    let encoded = good_is_encoded file small good in
+    let bytes = answered_bytes (header_in file) (entries_in (header_in file).version (drop head_size file)) file encoded in
+    (header_in file, entries_in (header_in file).version (drop head_size file), encoded, omega (arith, bytes, over))
 
-not-above : (file : List ℕ) (most : ℕ) → length (rehearsalOf file) ≤ most → AnsweredAbove file most → ⊥
-not-above file most fits over = omega (arith, fits, answered-bytes over.0 over.1 file over.2, over.3)
+not_above : (file : List ℕ) (most : ℕ) → length (rehearsal_of file) ≤ most → AnsweredAbove file most → ⊥
+not_above file most fits over = omega (arith, fits, answered_bytes over.0 over.1 file over.2, over.3)
 
-pub rehearsed-by-number : (file before : List ℕ) → Bytes file
-    → NumberDue (rehearseRows file (length before)) (rehearsedNumber (rehearsedOf file before))
-unfolding rehearsedOf
-rehearsed-by-number file before small = by_tests (goodFile file) refl (leb bytes 65536) refl (leb bytes (length before)) refl
+pub rehearsed_by_number : (file before : List ℕ) → Bytes file
+    → NumberDue (rehearse_rows file (length before)) (rehearsed_number (rehearsed_of file before))
+unfolding rehearsed_of
+rehearsed_by_number file before small = by_tests (good_file file) refl (leb bytes 65536) refl (leb bytes (length before)) refl
   where
     bytes : ℕ
-    bytes = length (rehearsalOf file)
+    bytes = length (rehearsal_of file)
 
-    by_tests : (good : Bool) → goodFile file ≡ good → (short : Bool) → leb bytes 65536 ≡ short → (fits : Bool) → leb bytes (length before) ≡ fits
-        → NumberDue (rehearseRows file (length before))
-        (rehearsedNumber (cond good (cond short (cond fits (rehearsed.Bytes bytes) rehearsed.Room) rehearsed.File) rehearsed.File))
-    by_tests false bad short e fits f = inl (inl (bad-is-no-job file bad), refl)
+    by_tests : (good : Bool) → good_file file ≡ good → (short : Bool) → leb bytes 65536 ≡ short → (fits : Bool) → leb bytes (length before) ≡ fits
+        → NumberDue (rehearse_rows file (length before))
+        (rehearsed_number (cond good (cond short (cond fits (rehearsed.Bytes bytes) rehearsed.Room) rehearsed.File) rehearsed.File))
+    by_tests false bad short e fits f = inl (inl (bad_is_no_job file bad), refl)
     by_tests true good false long fits f = inl (inr (above file _ small good (omega (arith, leb-false bytes 65536 long))), refl)
     by_tests true good true short fits f =
-        inr (⊎_elim (good-is-a-job file small good) (not-above file _ (omega (arith, leb-true bytes 65536 short))), by-room fits f)
+        inr (⊎_elim (good_is_a_job file small good) (not_above file _ (omega (arith, leb-true bytes 65536 short))), by_room fits f)
       where
-        by-room : (fits : Bool) → leb bytes (length before) ≡ fits
-            → (AnsweredAbove file (length before) × (rehearsedNumber (cond fits (rehearsed.Bytes bytes) rehearsed.Room) ≡ 2))
-            ⊎ ((AnsweredAbove file (length before) → ⊥) × (rehearsedNumber (cond fits (rehearsed.Bytes bytes) rehearsed.Room) ≡ 0))
-        by-room true room = inr (not-above file (length before) (omega (arith, leb-true bytes (length before) room)), refl)
-        by-room false over = inl (above file (length before) small good (omega (arith, leb-false bytes (length before) over)), refl)
+        by_room : (fits : Bool) → leb bytes (length before) ≡ fits
+            → (AnsweredAbove file (length before) × (rehearsed_number (cond fits (rehearsed.Bytes bytes) rehearsed.Room) ≡ 2))
+            ⊎ ((AnsweredAbove file (length before) → ⊥) × (rehearsed_number (cond fits (rehearsed.Bytes bytes) rehearsed.Room) ≡ 0))
+        by_room true room = inr (not_above file (length before) (omega (arith, leb-true bytes (length before) room)), refl)
+        by_room false over = inl (above file (length before) small good (omega (arith, leb-false bytes (length before) over)), refl)

@@ -9,33 +9,33 @@ use lib.Dec.{ltb}
 use lib.ListN.{get_or}
 use borrow.Author.Tests.{lt-ltb, ltb-true, ltb-false}
 use Rattle.questions.specs.Question.{covers}
-use Rattle.letters.specs.Letters.{Heard, standingAfter}
-use Rattle.letters.specs.Meaning.{shownMasked}
+use Rattle.letters.specs.Letters.{Heard, standing_after}
+use Rattle.letters.specs.Meaning.{shown_masked}
 use Rattle.letters.specs.declared.Standing.{Standing}
-use Rattle.letters.proofs.Meaning.{given-is-deserved, deserved-is-given}
-use Rattle.printing.specs.Text.{deviceLine, deviceLineIf, first_lines}
+use Rattle.letters.proofs.Meaning.{given_is_deserved, deserved_is_given}
+use Rattle.printing.specs.Text.{device_line, device_line_if, first_lines}
 use Rattle.promises.specs.Certificate.{DeviceLine, lettered, none}
-use Rattle.promises.proofs.OwnLetter.{deserving-below}
+use Rattle.promises.proofs.OwnLetter.{deserving_below}
 
-pub lines-alike : (f g : ℕ → List ℕ) (k : ℕ) → ((j : ℕ) → j < k → f j ≡ g j) → first_lines f k ≡ first_lines g k
+pub lines_alike : (f g : ℕ → List ℕ) (k : ℕ) → ((j : ℕ) → j < k → f j ≡ g j) → first_lines f k ≡ first_lines g k
 unfolding first_lines
-lines-alike f g zero same = refl
-lines-alike f g (suc k) same = ap₂ (λ (x y : List ℕ). x ++ y) (lines-alike f g k (λ j below. same j (omega arith))) (same k (omega arith))
+lines_alike f g zero same = refl
+lines_alike f g (suc k) same = ap₂ (λ (x y : List ℕ). x ++ y) (lines_alike f g k (λ j below. same j (omega arith))) (same k (omega arith))
 
 -- the lines of the letters that stand, and none past device 31
-abbrev pub standingLine : Standing → (a : ℕ) → List ℕ
-standingLine s a = cond (ltb a 32) (deviceLineIf s.write a (get_or s.letters a 0)) []
+abbrev pub standing_line : Standing → (a : ℕ) → List ℕ
+standing_line s a = cond (ltb a 32) (device_line_if s.write a (get_or s.letters a 0)) []
 
-pub line-standing : (s : Standing) (a : ℕ) → a < 32 → deviceLineIf s.write a (get_or s.letters a 0) ≡ standingLine s a
-line-standing s a below = ap (λ (t : Bool). cond t (deviceLineIf s.write a (get_or s.letters a 0)) []) (sym (lt-ltb a 32 below))
+pub line_standing : (s : Standing) (a : ℕ) → a < 32 → device_line_if s.write a (get_or s.letters a 0) ≡ standing_line s a
+line_standing s a below = ap (λ (t : Bool). cond t (device_line_if s.write a (get_or s.letters a 0)) []) (sym (lt-ltb a 32 below))
 
-pub line-deserved : (xs : List Heard) (a : ℕ) → DeviceLine shownMasked xs a (standingLine (standingAfter xs) a)
-line-deserved xs a = by_tests (ltb a 32) refl (covers (standingAfter xs).write a) refl
+pub line_deserved : (xs : List Heard) (a : ℕ) → DeviceLine shown_masked xs a (standing_line (standing_after xs) a)
+line_deserved xs a = by_tests (ltb a 32) refl (covers (standing_after xs).write a) refl
   where
-    by_tests : (t : Bool) → ltb a 32 ≡ t → (u : Bool) → covers (standingAfter xs).write a ≡ u
-        → DeviceLine shownMasked xs a (cond t (cond u (deviceLine a (get_or (standingAfter xs).letters a 0)) []) [])
+    by_tests : (t : Bool) → ltb a 32 ≡ t → (u : Bool) → covers (standing_after xs).write a ≡ u
+        → DeviceLine shown_masked xs a (cond t (cond u (device_line a (get_or (standing_after xs).letters a 0)) []) [])
     by_tests true below true covered =
-        lettered (get_or (standingAfter xs).letters a 0)
-        (given-is-deserved xs a (get_or (standingAfter xs).letters a 0) (ltb-true a 32 below) (record { covered = covered; stands = refl }))
-    by_tests true below false off = none (λ v due. false≢true (sym off ∙ (deserved-is-given xs a v (deserving-below due) due).covered))
-    by_tests false above u e = none (λ v due. omega (arith, ltb-false a 32 above, deserving-below due))
+        lettered (get_or (standing_after xs).letters a 0)
+        (given_is_deserved xs a (get_or (standing_after xs).letters a 0) (ltb-true a 32 below) (record { covered = covered; stands = refl }))
+    by_tests true below false off = none (λ v due. false≢true (sym off ∙ (deserved_is_given xs a v (deserving_below due) due).covered))
+    by_tests false above u e = none (λ v due. omega (arith, ltb-false a 32 above, deserving_below due))

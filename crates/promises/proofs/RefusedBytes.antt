@@ -9,19 +9,19 @@ use lib.Dec.{eqb}
 use lib.IntN.{ℤ}
 use lib.Ieee.{Float}
 use lib.ListN.{length}
-use Rattle.lines.specs.Write.{atFront}
-use Rattle.lines.proofs.LeftBy.{left-as-it-was}
-use Rattle.packing.specs.Words.{asBytes, lineOn}
+use Rattle.lines.specs.Write.{at_front}
+use Rattle.lines.proofs.LeftBy.{left_as_it_was}
+use Rattle.packing.specs.Words.{as_bytes, line_on}
 use Rattle.questions.specs.declared.question.Question as asked
-use Rattle.readings.specs.Reading.{valuesTaken}
-use Rattle.readings.specs.Packed.{packedReading}
+use Rattle.readings.specs.Reading.{values_taken}
+use Rattle.readings.specs.Packed.{packed_reading}
 use Rattle.readings.specs.declared.Reading.{Reading}
 use Rattle.readings.specs.declared.Reading.TheVariants.{Counted, Written, Values, Refused}
-use Rattle.reader.specs.Read.{valuesOn}
-use Rattle.commands.specs.Command.{commandLine, issuedOf, issuedNumber}
-use Rattle.registers.specs.Memory.{powerOnMemory}
+use Rattle.reader.specs.Read.{values_on}
+use Rattle.commands.specs.Command.{command_line, issued_of, issued_number}
+use Rattle.registers.specs.Memory.{power_on_memory}
 use Rattle.twin.specs.Step.{Chain}
-use Rattle.certificate.specs.Certificate.{certifiedOf, certifiedNumber}
+use Rattle.certificate.specs.Certificate.{certified_of, certified_number}
 use Rattle.certificate.specs.declared.Certified.{Certified}
 use Rattle.certificate.specs.declared.Certified.TheVariants as certified
 use Rattle.cells.specs.Cell.{cell_of}
@@ -29,87 +29,87 @@ use Rattle.cells.specs.declared.Range.{Range}
 use Rattle.cells.specs.declared.Range.TheVariants.{Unipolar, Bipolar}
 use Rattle.cells.specs.declared.Cell.{Cell}
 use Rattle.cells.specs.declared.Cell.TheVariants as cell
-use Rattle.c_reader.specs.ReadBytes.{readingOn, ReadBytesDone}
+use Rattle.c_reader.specs.ReadBytes.{reading_on, ReadBytesDone}
 use Rattle.c_commands.specs.CommandBytes.{CommandBytesDone}
-use Rattle.c_cells.specs.CellBytes.{packedCell, microvoltsOr, voltsOr, answer_of, microvoltsLeft, voltsLeft, CellDone}
-use Rattle.c_cells.specs.CellsBytes.{cellsNumber, cellsRead, byCell, packedOr, CellsDone}
-use Rattle.c_twin.specs.TwinBytes.{powerNumber, bytesNumber, PowerBytesDone, BytesDone}
-use Rattle.bmc.specs.Exports.{packedCertified, CertificateBytesDone}
-use Rattle.promises.specs.ByNumber.{packedNumber}
+use Rattle.c_cells.specs.CellBytes.{packed_cell, microvolts_or, volts_or, answer_of, microvolts_left, volts_left, CellDone}
+use Rattle.c_cells.specs.CellsBytes.{cells_number, cells_read, by_cell, packed_or, CellsDone}
+use Rattle.c_twin.specs.TwinBytes.{power_number, bytes_number, PowerBytesDone, BytesDone}
+use Rattle.bmc.specs.Exports.{packed_certified, CertificateBytesDone}
+use Rattle.promises.specs.ByNumber.{packed_number}
 use Rattle.promises.specs.Demand1.{TurnedAway}
-use Rattle.promises.proofs.RefusedWritesNothing.{refused-certificate}
+use Rattle.promises.proofs.RefusedWritesNothing.{refused_certificate}
 
-pub refused-read-bytes : (q : asked.Question) (line before after : List ℕ) (r : ℕ) → ReadBytesDone q line before after r
-    → TurnedAway (packedNumber r) → after ≡ before
-unfolding asBytes
-refused-read-bytes q line before after r done away =
-    done.leaves ∙ ap (λ (m : ℕ). atFront (asBytes (valuesOn (lineOn line) m)) before) (no-values (readingOn q line before) done.says)
+pub refused_read_bytes : (q : asked.Question) (line before after : List ℕ) (r : ℕ) → ReadBytesDone q line before after r
+    → TurnedAway (packed_number r) → after ≡ before
+unfolding as_bytes
+refused_read_bytes q line before after r done away =
+    done.leaves ∙ ap (λ (m : ℕ). at_front (as_bytes (values_on (line_on line) m)) before) (no_values (reading_on q line before) done.says)
   where
-    no-values : (reading : Reading) → r ≡ packedReading reading → valuesTaken reading ≡ 0
-    no-values (Counted n) e = refl
-    no-values Written e = refl
-    no-values (Values m) e = absurd (omega arith)
-    no-values (Refused why) e = refl
+    no_values : (reading : Reading) → r ≡ packed_reading reading → values_taken reading ≡ 0
+    no_values (Counted n) e = refl
+    no_values Written e = refl
+    no_values (Values m) e = absurd (omega arith)
+    no_values (Refused why) e = refl
 
-pub refused-command-bytes : (q : asked.Question) (before after : List ℕ) (r : ℕ) → CommandBytesDone q before after r
-    → TurnedAway (packedNumber r) → after ≡ before
-refused-command-bytes q before after r done away =
-    done.leaves ∙ left-as-it-was (atFront (asBytes (commandLine q)) before) before (issuedNumber (issuedOf q (length before / 2))) (omega (arith, done.says))
+pub refused_command_bytes : (q : asked.Question) (before after : List ℕ) (r : ℕ) → CommandBytesDone q before after r
+    → TurnedAway (packed_number r) → after ≡ before
+refused_command_bytes q before after r done away =
+    done.leaves ∙ left_as_it_was (at_front (as_bytes (command_line q)) before) before (issued_number (issued_of q (length before / 2))) (omega (arith, done.says))
 
-pub refused-cell : (c enabled register bipolar : ℕ) (microvolts microvoltsAfter : ℤ) (volts voltsAfter : Float) (r : ℕ)
-    → CellDone c enabled register bipolar microvolts microvoltsAfter volts voltsAfter r → TurnedAway (packedNumber r)
-    → (microvoltsAfter ≡ microvolts) × (voltsAfter ≡ volts)
-unfolding answer_of microvoltsLeft voltsLeft
-refused-cell c enabled register bipolar microvolts microvoltsAfter volts voltsAfter r done away =
-    let by = by-range (eqb bipolar 0) (eqb bipolar 1) done.says in (done.microvolts ∙ by.0, done.volts ∙ by.1)
+pub refused_cell : (c enabled register bipolar : ℕ) (microvolts microvolts_after : ℤ) (volts volts_after : Float) (r : ℕ)
+    → CellDone c enabled register bipolar microvolts microvolts_after volts volts_after r → TurnedAway (packed_number r)
+    → (microvolts_after ≡ microvolts) × (volts_after ≡ volts)
+unfolding answer_of microvolts_left volts_left
+refused_cell c enabled register bipolar microvolts microvolts_after volts volts_after r done away =
+    let by = by_range (eqb bipolar 0) (eqb bipolar 1) done.says in (done.microvolts ∙ by.0, done.volts ∙ by.1)
   where
     of : Range → Cell
     of range = cell_of range enabled c register
 
-    by-cell : (x : Cell) → r ≡ packedCell x → (microvoltsOr x microvolts ≡ microvolts) × (voltsOr x volts ≡ volts)
-    by-cell (cell.Measured v) e = absurd (omega arith)
-    by-cell cell.NotMeasured e = (refl, refl)
-    by-cell (cell.Refused why) e = (refl, refl)
+    by_cell_lem : (x : Cell) → r ≡ packed_cell x → (microvolts_or x microvolts ≡ microvolts) × (volts_or x volts ≡ volts)
+    by_cell_lem (cell.Measured v) e = absurd (omega arith)
+    by_cell_lem cell.NotMeasured e = (refl, refl)
+    by_cell_lem (cell.Refused why) e = (refl, refl)
 
-    by-range : (unipolar bipolar : Bool) → r ≡ cond unipolar (packedCell (of Unipolar)) (cond bipolar (packedCell (of Bipolar)) 1)
-        → (cond unipolar (microvoltsOr (of Unipolar) microvolts) (cond bipolar (microvoltsOr (of Bipolar) microvolts) microvolts) ≡ microvolts)
-        × (cond unipolar (voltsOr (of Unipolar) volts) (cond bipolar (voltsOr (of Bipolar) volts) volts) ≡ volts)
-    by-range true other e = by-cell (of Unipolar) e
-    by-range false true e = by-cell (of Bipolar) e
-    by-range false false e = (refl, refl)
+    by_range : (unipolar bipolar : Bool) → r ≡ cond unipolar (packed_cell (of Unipolar)) (cond bipolar (packed_cell (of Bipolar)) 1)
+        → (cond unipolar (microvolts_or (of Unipolar) microvolts) (cond bipolar (microvolts_or (of Bipolar) microvolts) microvolts) ≡ microvolts)
+        × (cond unipolar (volts_or (of Unipolar) volts) (cond bipolar (volts_or (of Bipolar) volts) volts) ≡ volts)
+    by_range true other e = by_cell_lem (of Unipolar) e
+    by_range false true e = by_cell_lem (of Bipolar) e
+    by_range false false e = (refl, refl)
 
-pub refused-cells : (enabled bipolar : ℕ) (registers : List ℕ) (microvolts microvoltsAfter : List ℤ) (volts voltsAfter : List Float)
-    (answers answersAfter : List ℕ) (r : ℕ) → CellsDone enabled bipolar registers microvolts microvoltsAfter volts voltsAfter answers answersAfter r
-    → TurnedAway (packedNumber r) → (microvoltsAfter ≡ microvolts) × (voltsAfter ≡ volts) × (answersAfter ≡ answers)
-refused-cells enabled bipolar registers microvolts microvoltsAfter volts voltsAfter answers answersAfter r done away =
-    let number = cellsNumber bipolar registers microvolts volts answers in
-    let cells = cellsRead enabled bipolar registers in
+pub refused_cells : (enabled bipolar : ℕ) (registers : List ℕ) (microvolts microvolts_after : List ℤ) (volts volts_after : List Float)
+    (answers answers_after : List ℕ) (r : ℕ) → CellsDone enabled bipolar registers microvolts microvolts_after volts volts_after answers answers_after r
+    → TurnedAway (packed_number r) → (microvolts_after ≡ microvolts) × (volts_after ≡ volts) × (answers_after ≡ answers)
+refused_cells enabled bipolar registers microvolts microvolts_after volts volts_after answers answers_after r done away =
+    let number = cells_number bipolar registers microvolts volts answers in
+    let cells = cells_read enabled bipolar registers in
     let row : 1 ≤ number = omega (arith, done.says) in (
-      done.microvolts ∙ left-as-it-was (byCell microvoltsOr cells microvolts) microvolts number row,
-      done.volts ∙ left-as-it-was (byCell voltsOr cells volts) volts number row,
-      done.answers ∙ left-as-it-was (byCell packedOr cells answers) answers number row,
+      done.microvolts ∙ left_as_it_was (by_cell microvolts_or cells microvolts) microvolts number row,
+      done.volts ∙ left_as_it_was (by_cell volts_or cells volts) volts number row,
+      done.answers ∙ left_as_it_was (by_cell packed_or cells answers) answers number row,
     )
 
-pub refused-power-bytes : (n : ℕ) (before after : List ℕ) (r : ℕ) → PowerBytesDone n before after r → TurnedAway (packedNumber r) → after ≡ before
-refused-power-bytes n before after r done away =
-    done.leaves ∙ left-as-it-was (asBytes (powerOnMemory n)) before (powerNumber n (length before)) (omega (arith, done.says))
+pub refused_power_bytes : (n : ℕ) (before after : List ℕ) (r : ℕ) → PowerBytesDone n before after r → TurnedAway (packed_number r) → after ≡ before
+refused_power_bytes n before after r done away =
+    done.leaves ∙ left_as_it_was (as_bytes (power_on_memory n)) before (power_number n (length before)) (omega (arith, done.says))
 
 -- one device, or the whole chain
-pub refused-steps : (fits : Bool) (chain : Chain) (memory memoryLeft line out outAfter : List ℕ) (r : ℕ)
-    → BytesDone fits chain memory memoryLeft line out outAfter r → TurnedAway (packedNumber r) → (memoryLeft ≡ memory) × (outAfter ≡ out)
-refused-steps fits chain memory memoryLeft line out outAfter r done away =
-    let row : 1 ≤ bytesNumber fits line out = omega (arith, done.says) in (
-      done.remembers ∙ left-as-it-was (asBytes chain.memory) memory _ row,
-      done.leaves ∙ left-as-it-was (atFront (asBytes chain.line) out) out _ row,
+pub refused_steps : (fits : Bool) (chain : Chain) (memory memory_left line out out_after : List ℕ) (r : ℕ)
+    → BytesDone fits chain memory memory_left line out out_after r → TurnedAway (packed_number r) → (memory_left ≡ memory) × (out_after ≡ out)
+refused_steps fits chain memory memory_left line out out_after r done away =
+    let row : 1 ≤ bytes_number fits line out = omega (arith, done.says) in (
+      done.remembers ∙ left_as_it_was (as_bytes chain.memory) memory _ row,
+      done.leaves ∙ left_as_it_was (at_front (as_bytes chain.line) out) out _ row,
     )
 
-pub refused-certificate-bytes : (file before after : List ℕ) (r : ℕ) → CertificateBytesDone file before after r
-    → TurnedAway (packedNumber r) → after ≡ before
-refused-certificate-bytes file before after r done away =
-    refused-certificate file before after (certifiedOf file before) (record { says = refl; leaves = done.leaves })
-    (own-number (certifiedOf file before) done.says)
+pub refused_certificate_bytes : (file before after : List ℕ) (r : ℕ) → CertificateBytesDone file before after r
+    → TurnedAway (packed_number r) → after ≡ before
+refused_certificate_bytes file before after r done away =
+    refused_certificate file before after (certified_of file before) (record { says = refl; leaves = done.leaves })
+    (own_number (certified_of file before) done.says)
   where
-    own-number : (c : Certified) → r ≡ packedCertified c → TurnedAway (certifiedNumber c)
-    own-number (certified.Bytes n) e = omega arith
-    own-number certified.File e = omega arith
-    own-number certified.Room e = omega arith
+    own_number : (c : Certified) → r ≡ packed_certified c → TurnedAway (certified_number c)
+    own_number (certified.Bytes n) e = omega arith
+    own_number certified.File e = omega arith
+    own_number certified.Room e = omega arith

@@ -10,26 +10,26 @@ use lib.Dec.{eqb, leb}
 use lib.ListN.{length, get_or, take}
 use borrow.Author.Tests.{eqb-true, eqb-false, leb-true, leb-false}
 use Rattle.ground.proofs.Test.{and_left, and_right, below_or_not}
-use Rattle.pec.specs.Pec.{pecOf}
+use Rattle.pec.specs.Pec.{pec_of}
 use Rattle.characters.specs.Character.{preamble, stop}
-use Rattle.characters.specs.Nibble.{isNibble}
-use Rattle.character_check.specs.Check.{isCharacter}
-use Rattle.scanning.specs.Place.{firstNoCharacter, firstNoNibble}
+use Rattle.characters.specs.Nibble.{is_nibble}
+use Rattle.character_check.specs.Check.{is_character}
+use Rattle.scanning.specs.Place.{first_no_character, first_no_nibble}
 use Rattle.scanning.specs.Frame.{framed}
 use Rattle.scanning.specs.declared.Place.TheVariants.{At, Nowhere}
-use Rattle.scanning.proofs.FirstPlace.{at_first, nowhere-passes, characters-along, nibbles-along}
-use Rattle.questions.specs.Question.{byForm}
+use Rattle.scanning.proofs.FirstPlace.{at_first, nowhere_passes, characters_along, nibbles_along}
+use Rattle.questions.specs.Question.{by_form}
 use Rattle.questions.specs.Shape.{shape_of}
-use Rattle.questions.specs.Bytes.{writeCovered}
+use Rattle.questions.specs.Bytes.{write_covered}
 use Rattle.questions.specs.declared.question.Question as asked
-use Rattle.contents.specs.Rows.{byteIn, valueEchoed, echoed, pecRight, aliveRight, checkByte, countRight}
+use Rattle.contents.specs.Rows.{byte_in, value_echoed, echoed, pec_right, alive_right, check_byte, count_right}
 use Rattle.contents.proofs.RowLaws as laws
-use Rattle.promises.specs.Rows.{echo, checkIn, countIn, Lowest}
+use Rattle.promises.specs.Rows.{echo, check_in, count_in, Lowest}
 
 -- what a test that came out false says of its parts
-and-false : (a b : Bool) → (a && b) ≡ false → (a ≡ false) ⊎ (b ≡ false)
-and-false true b e = inr e
-and-false false b e = inl refl
+and_false : (a b : Bool) → (a && b) ≡ false → (a ≡ false) ⊎ (b ≡ false)
+and_false true b e = inr e
+and_false false b e = inl refl
 
 pub never : {t : Bool} → t ≡ true → t ≡ false → ⊥
 never e f = true≢false (sym e ∙ f)
@@ -37,35 +37,35 @@ never e f = true≢false (sym e ∙ f)
 -- ---- 4 CHARACTER and 6 MANCHESTER
 
 module _ (line : List ℕ) where
-  pub no-character : (i : ℕ) → firstNoCharacter line ≡ At i → Lowest isCharacter line 0 i
-  no-character i e =
-      let at = at_first isCharacter line 0 (length line) i (sym (characters-along line) ∙ e) in
-      record { from = at.from; below = omega (arith, at.below); fails = at.fails; lower-pass = at.passes }
+  pub no_character : (i : ℕ) → first_no_character line ≡ At i → Lowest is_character line 0 i
+  no_character i e =
+      let at = at_first is_character line 0 (length line) i (sym (characters_along line) ∙ e) in
+      record { from = at.from; below = omega (arith, at.below); fails = at.fails; lower_pass = at.passes }
 
-  pub all-characters : firstNoCharacter line ≡ Nowhere → (i : ℕ) × (i < length line) × (isCharacter (get_or line i 0) ≡ false) → ⊥
-  all-characters e (i, below, fails) =
-      never (nowhere-passes isCharacter line 0 (length line) (sym (characters-along line) ∙ e) i (omega arith) (omega arith)) fails
+  pub all_characters : first_no_character line ≡ Nowhere → (i : ℕ) × (i < length line) × (is_character (get_or line i 0) ≡ false) → ⊥
+  all_characters e (i, below, fails) =
+      never (nowhere_passes is_character line 0 (length line) (sym (characters_along line) ∙ e) i (omega arith) (omega arith)) fails
 
-  pub no-nibble : (i : ℕ) → firstNoNibble line ≡ At i → Lowest isNibble line 1 i
-  no-nibble i e =
-      let at = at_first isNibble line 1 (length line - 2) i (sym (nibbles-along line) ∙ e) in
-      record { from = at.from; below = omega (arith, at.below, at.from); fails = at.fails; lower-pass = at.passes }
+  pub no_nibble : (i : ℕ) → first_no_nibble line ≡ At i → Lowest is_nibble line 1 i
+  no_nibble i e =
+      let at = at_first is_nibble line 1 (length line - 2) i (sym (nibbles_along line) ∙ e) in
+      record { from = at.from; below = omega (arith, at.below, at.from); fails = at.fails; lower_pass = at.passes }
 
-  pub all-nibbles : firstNoNibble line ≡ Nowhere → (i : ℕ) × (1 ≤ i) × (i + 1 < length line) × (isNibble (get_or line i 0) ≡ false) → ⊥
-  all-nibbles e (i, from, below, fails) =
-      never (nowhere-passes isNibble line 1 (length line - 2) (sym (nibbles-along line) ∙ e) i from (omega arith)) fails
+  pub all_nibbles : first_no_nibble line ≡ Nowhere → (i : ℕ) × (1 ≤ i) × (i + 1 < length line) × (is_nibble (get_or line i 0) ≡ false) → ⊥
+  all_nibbles e (i, from, below, fails) =
+      never (nowhere_passes is_nibble line 1 (length line - 2) (sym (nibbles_along line) ∙ e) i from (omega arith)) fails
 
 -- ---- 5 FRAME
 
-pub bad-frame : (line : List ℕ) → framed line ≡ false → (get_or line 0 0 ≡ preamble → ⊥) ⊎ (get_last_d line 0 ≡ stop → ⊥)
+pub bad_frame : (line : List ℕ) → framed line ≡ false → (get_or line 0 0 ≡ preamble → ⊥) ⊎ (get_last_d line 0 ≡ stop → ⊥)
 unfolding framed
-bad-frame line e =
+bad_frame line e =
     ⊎_elim (λ f. inl (eqb-false (get_or line 0 0) preamble f)) (λ f. inr (eqb-false (get_last_d line 0) stop f))
-    (and-false (eqb (get_or line 0 0) preamble) (eqb (get_last_d line 0) stop) e)
+    (and_false (eqb (get_or line 0 0) preamble) (eqb (get_last_d line 0) stop) e)
 
-pub good-frame : (line : List ℕ) → framed line ≡ true → (get_or line 0 0 ≡ preamble → ⊥) ⊎ (get_last_d line 0 ≡ stop → ⊥) → ⊥
+pub good_frame : (line : List ℕ) → framed line ≡ true → (get_or line 0 0 ≡ preamble → ⊥) ⊎ (get_last_d line 0 ≡ stop → ⊥) → ⊥
 unfolding framed
-good-frame line e =
+good_frame line e =
     ⊎_elim (λ other. other (eqb-true (get_or line 0 0) preamble (and_left _ _ e)))
     (λ other. other (eqb-true (get_last_d line 0) stop (and_right (eqb (get_or line 0 0) preamble) _ e)))
 
@@ -80,130 +80,130 @@ module _ (q : asked.Question) (bytes : List ℕ) where
   first = (shape_of q).first
 
   abbrev repeats : ℕ → List ℕ
-  repeats k = byForm k (first ∷ 0 ∷ []) (writeCovered q) (first ∷ q.reg ∷ [])
+  repeats k = by_form k (first ∷ 0 ∷ []) (write_covered q) (first ∷ q.reg ∷ [])
 
   abbrev Repeated : ℕ → Bool
   Repeated k =
-      eqb (byteIn bytes 0) first
-      && byForm k (eqb (byteIn bytes 1) 0) (eqb (byteIn bytes 1) q.reg && valueEchoed q bytes) (eqb (byteIn bytes 1) q.reg)
+      eqb (byte_in bytes 0) first
+      && by_form k (eqb (byte_in bytes 1) 0) (eqb (byte_in bytes 1) q.reg && value_echoed q bytes) (eqb (byte_in bytes 1) q.reg)
 
-  bad-two : (second : ℕ) → (eqb (byteIn bytes 0) first && eqb (byteIn bytes 1) second) ≡ false → Other (first ∷ second ∷ [])
-  bad-two second e =
-      ⊎_elim (λ f. (0, omega arith, eqb-false (byteIn bytes 0) first f)) (λ f. (1, omega arith, eqb-false (byteIn bytes 1) second f))
-      (and-false (eqb (byteIn bytes 0) first) (eqb (byteIn bytes 1) second) e)
+  bad_two : (second : ℕ) → (eqb (byte_in bytes 0) first && eqb (byte_in bytes 1) second) ≡ false → Other (first ∷ second ∷ [])
+  bad_two second e =
+      ⊎_elim (λ f. (0, omega arith, eqb-false (byte_in bytes 0) first f)) (λ f. (1, omega arith, eqb-false (byte_in bytes 1) second f))
+      (and_false (eqb (byte_in bytes 0) first) (eqb (byte_in bytes 1) second) e)
 
-  bad-four : (eqb (byteIn bytes 0) first && (eqb (byteIn bytes 1) q.reg && valueEchoed q bytes)) ≡ false → Other (writeCovered q)
-  bad-four e =
-      ⊎_elim (λ f. (0, omega arith, eqb-false (byteIn bytes 0) first f))
-      (λ f. ⊎_elim (λ f. (1, omega arith, eqb-false (byteIn bytes 1) q.reg f))
-      (λ f. ⊎_elim (λ f. (2, omega arith, eqb-false (byteIn bytes 2) (q.value % 256) f))
-      (λ f. (3, omega arith, eqb-false (byteIn bytes 3) (q.value / 256) f))
-      (and-false (eqb (byteIn bytes 2) (q.value % 256)) (eqb (byteIn bytes 3) (q.value / 256)) f))
-      (and-false (eqb (byteIn bytes 1) q.reg) (valueEchoed q bytes) f))
-      (and-false (eqb (byteIn bytes 0) first) (eqb (byteIn bytes 1) q.reg && valueEchoed q bytes) e)
+  bad_four : (eqb (byte_in bytes 0) first && (eqb (byte_in bytes 1) q.reg && value_echoed q bytes)) ≡ false → Other (write_covered q)
+  bad_four e =
+      ⊎_elim (λ f. (0, omega arith, eqb-false (byte_in bytes 0) first f))
+      (λ f. ⊎_elim (λ f. (1, omega arith, eqb-false (byte_in bytes 1) q.reg f))
+      (λ f. ⊎_elim (λ f. (2, omega arith, eqb-false (byte_in bytes 2) (q.value % 256) f))
+      (λ f. (3, omega arith, eqb-false (byte_in bytes 3) (q.value / 256) f))
+      (and_false (eqb (byte_in bytes 2) (q.value % 256)) (eqb (byte_in bytes 3) (q.value / 256)) f))
+      (and_false (eqb (byte_in bytes 1) q.reg) (value_echoed q bytes) f))
+      (and_false (eqb (byte_in bytes 0) first) (eqb (byte_in bytes 1) q.reg && value_echoed q bytes) e)
 
-  bad-at : (k : ℕ) → Repeated k ≡ false → Other (repeats k)
-  bad-at zero e = bad-two 0 e
-  bad-at (suc zero) e = bad-four e
-  bad-at (suc (suc zero)) e = bad-four e
-  bad-at (suc (suc (suc zero))) e = bad-two q.reg e
-  bad-at (suc (suc (suc (suc k)))) e = bad-two q.reg e
+  bad_at : (k : ℕ) → Repeated k ≡ false → Other (repeats k)
+  bad_at zero e = bad_two 0 e
+  bad_at (suc zero) e = bad_four e
+  bad_at (suc (suc zero)) e = bad_four e
+  bad_at (suc (suc (suc zero))) e = bad_two q.reg e
+  bad_at (suc (suc (suc (suc k)))) e = bad_two q.reg e
 
-  good-two : (second : ℕ) → (eqb (byteIn bytes 0) first && eqb (byteIn bytes 1) second) ≡ true → Other (first ∷ second ∷ []) → ⊥
-  good-two second e (zero, below, other) = other (eqb-true (byteIn bytes 0) first (and_left _ _ e))
-  good-two second e (suc zero, below, other) = other (eqb-true (byteIn bytes 1) second (and_right (eqb (byteIn bytes 0) first) _ e))
-  good-two second e (suc (suc i), below, other) = omega arith
+  good_two : (second : ℕ) → (eqb (byte_in bytes 0) first && eqb (byte_in bytes 1) second) ≡ true → Other (first ∷ second ∷ []) → ⊥
+  good_two second e (zero, below, other) = other (eqb-true (byte_in bytes 0) first (and_left _ _ e))
+  good_two second e (suc zero, below, other) = other (eqb-true (byte_in bytes 1) second (and_right (eqb (byte_in bytes 0) first) _ e))
+  good_two second e (suc (suc i), below, other) = omega arith
 
-  good-four : (eqb (byteIn bytes 0) first && (eqb (byteIn bytes 1) q.reg && valueEchoed q bytes)) ≡ true → Other (writeCovered q) → ⊥
-  good-four e (i, below, other) = at i below other
+  good_four : (eqb (byte_in bytes 0) first && (eqb (byte_in bytes 1) q.reg && value_echoed q bytes)) ≡ true → Other (write_covered q) → ⊥
+  good_four e (i, below, other) = at i below other
     where
-      rest : (eqb (byteIn bytes 1) q.reg && valueEchoed q bytes) ≡ true
-      rest = and_right (eqb (byteIn bytes 0) first) _ e
+      rest : (eqb (byte_in bytes 1) q.reg && value_echoed q bytes) ≡ true
+      rest = and_right (eqb (byte_in bytes 0) first) _ e
 
-      value : valueEchoed q bytes ≡ true
-      value = and_right (eqb (byteIn bytes 1) q.reg) _ rest
+      value : value_echoed q bytes ≡ true
+      value = and_right (eqb (byte_in bytes 1) q.reg) _ rest
 
-      at : (i : ℕ) → i < 4 → (get_or bytes i 0 ≡ get_or (writeCovered q) i 0 → ⊥) → ⊥
-      at zero below other = other (eqb-true (byteIn bytes 0) first (and_left _ _ e))
-      at (suc zero) below other = other (eqb-true (byteIn bytes 1) q.reg (and_left _ _ rest))
-      at (suc (suc zero)) below other = other (eqb-true (byteIn bytes 2) (q.value % 256) (and_left _ _ value))
-      at (suc (suc (suc zero))) below other = other (eqb-true (byteIn bytes 3) (q.value / 256) (and_right (eqb (byteIn bytes 2) (q.value % 256)) _ value))
+      at : (i : ℕ) → i < 4 → (get_or bytes i 0 ≡ get_or (write_covered q) i 0 → ⊥) → ⊥
+      at zero below other = other (eqb-true (byte_in bytes 0) first (and_left _ _ e))
+      at (suc zero) below other = other (eqb-true (byte_in bytes 1) q.reg (and_left _ _ rest))
+      at (suc (suc zero)) below other = other (eqb-true (byte_in bytes 2) (q.value % 256) (and_left _ _ value))
+      at (suc (suc (suc zero))) below other = other (eqb-true (byte_in bytes 3) (q.value / 256) (and_right (eqb (byte_in bytes 2) (q.value % 256)) _ value))
       at (suc (suc (suc (suc i)))) below other = omega arith
 
-  good-at : (k : ℕ) → Repeated k ≡ true → Other (repeats k) → ⊥
-  good-at zero e = good-two 0 e
-  good-at (suc zero) e = good-four e
-  good-at (suc (suc zero)) e = good-four e
-  good-at (suc (suc (suc zero))) e = good-two q.reg e
-  good-at (suc (suc (suc (suc k)))) e = good-two q.reg e
+  good_at : (k : ℕ) → Repeated k ≡ true → Other (repeats k) → ⊥
+  good_at zero e = good_two 0 e
+  good_at (suc zero) e = good_four e
+  good_at (suc (suc zero)) e = good_four e
+  good_at (suc (suc (suc zero))) e = good_two q.reg e
+  good_at (suc (suc (suc (suc k)))) e = good_two q.reg e
 
-  pub bad-echo : echoed q bytes ≡ false → (i : ℕ) × (i < length (echo q)) × (get_or bytes i 0 ≡ get_or (echo q) i 0 → ⊥)
+  pub bad_echo : echoed q bytes ≡ false → (i : ℕ) × (i < length (echo q)) × (get_or bytes i 0 ≡ get_or (echo q) i 0 → ⊥)
   unfolding echoed
-  bad-echo e = bad-at q.kind e
+  bad_echo e = bad_at q.kind e
 
-  pub good-echo : echoed q bytes ≡ true → (i : ℕ) × (i < length (echo q)) × (get_or bytes i 0 ≡ get_or (echo q) i 0 → ⊥) → ⊥
+  pub good_echo : echoed q bytes ≡ true → (i : ℕ) × (i < length (echo q)) × (get_or bytes i 0 ≡ get_or (echo q) i 0 → ⊥) → ⊥
   unfolding echoed
-  good-echo e = good-at q.kind e
+  good_echo e = good_at q.kind e
 
   abbrev pub WrongPec : Type 0
-  WrongPec = (1 ≤ q.kind) × (byteIn bytes (shape_of q).covered ≡ pecOf (take (shape_of q).covered bytes) → ⊥)
+  WrongPec = (1 ≤ q.kind) × (byte_in bytes (shape_of q).covered ≡ pec_of (take (shape_of q).covered bytes) → ⊥)
 
-  pub bad-pec : pecRight q bytes ≡ false → WrongPec
-  bad-pec e =
-      ⊎_elim (λ hello. absurd (never (sym (laws.hello-pec q bytes hello)) e))
-      (λ lo. (lo, eqb-false (byteIn bytes (shape_of q).covered) (pecOf (take (shape_of q).covered bytes)) (laws.other-pec q bytes lo ∙ e)))
+  pub bad_pec : pec_right q bytes ≡ false → WrongPec
+  bad_pec e =
+      ⊎_elim (λ hello. absurd (never (sym (laws.hello_pec q bytes hello)) e))
+      (λ lo. (lo, eqb-false (byte_in bytes (shape_of q).covered) (pec_of (take (shape_of q).covered bytes)) (laws.other_pec q bytes lo ∙ e)))
       (eq-zero-or-pos q.kind)
 
-  pub good-pec : pecRight q bytes ≡ true → WrongPec → ⊥
-  good-pec e (lo, wrong) =
-      wrong (eqb-true (byteIn bytes (shape_of q).covered) (pecOf (take (shape_of q).covered bytes)) (laws.other-pec q bytes lo ∙ e))
+  pub good_pec : pec_right q bytes ≡ true → WrongPec → ⊥
+  good_pec e (lo, wrong) =
+      wrong (eqb-true (byte_in bytes (shape_of q).covered) (pec_of (take (shape_of q).covered bytes)) (laws.other_pec q bytes lo ∙ e))
 
-  abbrev pub alive-byte : ℕ
-  alive-byte = byteIn bytes ((shape_of q).covered + 1)
+  abbrev pub alive_byte : ℕ
+  alive_byte = byte_in bytes ((shape_of q).covered + 1)
 
-  abbrev pub alive-due : ℕ
-  alive-due = (q.seed + (shape_of q).acting) % 256
+  abbrev pub alive_due : ℕ
+  alive_due = (q.seed + (shape_of q).acting) % 256
 
-  pub bad-alive : aliveRight q bytes ≡ false → (1 ≤ q.kind) × (q.alive ≡ 1) × (alive-byte ≡ alive-due → ⊥)
-  bad-alive e =
-      ⊎_elim (λ hello. absurd (never (sym (laws.hello-alive q bytes hello)) e))
-      (λ lo. by-test lo (eqb q.alive 1) refl) (eq-zero-or-pos q.kind)
+  pub bad_alive : alive_right q bytes ≡ false → (1 ≤ q.kind) × (q.alive ≡ 1) × (alive_byte ≡ alive_due → ⊥)
+  bad_alive e =
+      ⊎_elim (λ hello. absurd (never (sym (laws.hello_alive q bytes hello)) e))
+      (λ lo. by_test lo (eqb q.alive 1) refl) (eq-zero-or-pos q.kind)
     where
-      by-test : 1 ≤ q.kind → (t : Bool) → eqb q.alive 1 ≡ t → (1 ≤ q.kind) × (q.alive ≡ 1) × (alive-byte ≡ alive-due → ⊥)
-      by-test lo true f =
+      by_test : 1 ≤ q.kind → (t : Bool) → eqb q.alive 1 ≡ t → (1 ≤ q.kind) × (q.alive ≡ 1) × (alive_byte ≡ alive_due → ⊥)
+      by_test lo true f =
           let on = eqb-true q.alive 1 f in
-          (lo, on, eqb-false alive-byte alive-due (laws.some-alive q bytes lo on ∙ e))
-      by-test lo false f = absurd (never (sym (laws.no-alive q bytes lo (eqb-false q.alive 1 f))) e)
+          (lo, on, eqb-false alive_byte alive_due (laws.some_alive q bytes lo on ∙ e))
+      by_test lo false f = absurd (never (sym (laws.no_alive q bytes lo (eqb-false q.alive 1 f))) e)
 
-  pub good-alive-byte : aliveRight q bytes ≡ true → (1 ≤ q.kind) × (q.alive ≡ 1) × (alive-byte ≡ alive-due → ⊥) → ⊥
-  good-alive-byte e (lo, on, wrong) = wrong (eqb-true alive-byte alive-due (laws.some-alive q bytes lo on ∙ e))
+  pub good_alive_byte : alive_right q bytes ≡ true → (1 ≤ q.kind) × (q.alive ≡ 1) × (alive_byte ≡ alive_due → ⊥) → ⊥
+  good_alive_byte e (lo, on, wrong) = wrong (eqb-true alive_byte alive_due (laws.some_alive q bytes lo on ∙ e))
 
-  pub bad-check : eqb (checkByte q bytes) 0 ≡ false → (3 ≤ q.kind) × (checkIn q bytes ≡ 0 → ⊥)
-  bad-check e =
-      let other = eqb-false (checkByte q bytes) 0 e in
-      ⊎_elim (λ (low : q.kind < 3). absurd (other (sym (laws.no-check q bytes (omega arith)))))
-      (λ lo. (lo, λ is. other (sym (laws.read-check q bytes lo) ∙ is))) (below_or_not q.kind 3)
+  pub bad_check : eqb (check_byte q bytes) 0 ≡ false → (3 ≤ q.kind) × (check_in q bytes ≡ 0 → ⊥)
+  bad_check e =
+      let other = eqb-false (check_byte q bytes) 0 e in
+      ⊎_elim (λ (low : q.kind < 3). absurd (other (sym (laws.no_check q bytes (omega arith)))))
+      (λ lo. (lo, λ is. other (sym (laws.read_check q bytes lo) ∙ is))) (below_or_not q.kind 3)
 
-  pub good-check : eqb (checkByte q bytes) 0 ≡ true → (3 ≤ q.kind) × (checkIn q bytes ≡ 0 → ⊥) → ⊥
-  good-check e (lo, other) = other (laws.read-check q bytes lo ∙ eqb-true (checkByte q bytes) 0 e)
+  pub good_check : eqb (check_byte q bytes) 0 ≡ true → (3 ≤ q.kind) × (check_in q bytes ≡ 0 → ⊥) → ⊥
+  good_check e (lo, other) = other (laws.read_check q bytes lo ∙ eqb-true (check_byte q bytes) 0 e)
 
   -- a byte that CHECK tells is the one that stands there
-  pub told-check : eqb (checkByte q bytes) 0 ≡ false → checkByte q bytes ≡ checkIn q bytes
-  told-check e = sym (laws.read-check q bytes (bad-check e).0)
+  pub told_check : eqb (check_byte q bytes) 0 ≡ false → check_byte q bytes ≡ check_in q bytes
+  told_check e = sym (laws.read_check q bytes (bad_check e).0)
 
-  pub bad-count : countRight q bytes ≡ false → (q.kind ≡ 0) × ((countIn bytes ≡ 0) ⊎ (32 < countIn bytes))
-  bad-count e =
+  pub bad_count : count_right q bytes ≡ false → (q.kind ≡ 0) × ((count_in bytes ≡ 0) ⊎ (32 < count_in bytes))
+  bad_count e =
       ⊎_elim
       (λ hello. (
         hello,
-        ⊎_elim (λ low. inl (omega (arith, leb-false 1 (byteIn bytes 2) low))) (λ high. inr (leb-false (byteIn bytes 2) 32 high))
-            (and-false (leb 1 (byteIn bytes 2)) (leb (byteIn bytes 2) 32) (laws.hello-count q bytes hello ∙ e)),
+        ⊎_elim (λ low. inl (omega (arith, leb-false 1 (byte_in bytes 2) low))) (λ high. inr (leb-false (byte_in bytes 2) 32 high))
+            (and_false (leb 1 (byte_in bytes 2)) (leb (byte_in bytes 2) 32) (laws.hello_count q bytes hello ∙ e)),
       ))
-      (λ lo. absurd (never (sym (laws.no-count q bytes lo)) e)) (eq-zero-or-pos q.kind)
+      (λ lo. absurd (never (sym (laws.no_count q bytes lo)) e)) (eq-zero-or-pos q.kind)
 
-  pub good-count-byte : countRight q bytes ≡ true → (q.kind ≡ 0) × ((countIn bytes ≡ 0) ⊎ (32 < countIn bytes)) → ⊥
-  good-count-byte e (hello, out) =
-      let right = laws.hello-count q bytes hello ∙ e in
-      let least = leb-true 1 (byteIn bytes 2) (and_left _ _ right) in
-      let most = leb-true (byteIn bytes 2) 32 (and_right (leb 1 (byteIn bytes 2)) _ right) in
+  pub good_count_byte : count_right q bytes ≡ true → (q.kind ≡ 0) × ((count_in bytes ≡ 0) ⊎ (32 < count_in bytes)) → ⊥
+  good_count_byte e (hello, out) =
+      let right = laws.hello_count q bytes hello ∙ e in
+      let least = leb-true 1 (byte_in bytes 2) (and_left _ _ right) in
+      let most = leb-true (byte_in bytes 2) 32 (and_right (leb 1 (byte_in bytes 2)) _ right) in
       ⊎_elim (λ none. omega arith) (λ over. omega arith) out

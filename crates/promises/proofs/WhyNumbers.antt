@@ -4,68 +4,68 @@ use mathlib.Core.List.{List}
 use Prim.Native.Nat.{ℕ, ◌<◌}
 use native.Mathlib.Omega.{arith}
 use lib.ListN.{length}
-use Rattle.packing.specs.Words.{lineOn}
+use Rattle.packing.specs.Words.{line_on}
 use Rattle.questions.specs.declared.question.Question.{Question}
-use Rattle.readings.specs.Reading.{refusalNumber, number_of}
+use Rattle.readings.specs.Reading.{refusal_number, number_of}
 use Rattle.readings.specs.declared.Reading.{Reading}
 use Rattle.readings.specs.declared.Reading.TheVariants.{Counted, Written, Values, Refused}
-use Rattle.judging.specs.Judge.{judgeOf}
-use Rattle.reasons.specs.Reason.{reasonFor, reasonOf, reasonNumber}
+use Rattle.judging.specs.Judge.{judge_of}
+use Rattle.reasons.specs.Reason.{reason_for, reason_of, reason_number}
 use Rattle.reasons.specs.declared.Spot.{Spot}
 use Rattle.reasons.specs.declared.Spot.TheVariants.{Asked, Whole, Word, Byte}
 use Rattle.reasons.specs.declared.Because.{Because}
 use Rattle.reasons.specs.declared.Reason.{Reason}
 use Rattle.reasons.specs.declared.Reason.TheVariants.{Accepted, TurnedAway}
-use Rattle.reasons.proofs.Told.{same-why}
-use Rattle.c_reasons.specs.Explain.{countedIn, inBytes, reasonOn, packedReason, packedOn}
-use Rattle.promises.specs.ByNumber.{NumberDue, packedNumber}
-use Rattle.promises.specs.Rows.{readRows}
-use Rattle.promises.proofs.ByNumber.{Small, below-256}
+use Rattle.reasons.proofs.Told.{same_why}
+use Rattle.c_reasons.specs.Explain.{counted_in, in_bytes, reason_on, packed_reason, packed_on}
+use Rattle.promises.specs.ByNumber.{NumberDue, packed_number}
+use Rattle.promises.specs.Rows.{read_rows}
+use Rattle.promises.proofs.ByNumber.{Small, below_256}
 use Rattle.promises.proofs.Rows.{by_number}
 
 module _ (q : Question) (line : List ℕ) where
-  of-reading : (r : Reading) → number_of r ≡ reasonNumber (reasonFor q line r)
-  of-reading (Counted n) = refl
-  of-reading Written = refl
-  of-reading (Values m) = refl
-  of-reading (Refused why) = ap refusalNumber (sym (same-why q line why))
+  of_reading : (r : Reading) → number_of r ≡ reason_number (reason_for q line r)
+  of_reading (Counted n) = refl
+  of_reading Written = refl
+  of_reading (Values m) = refl
+  of_reading (Refused why) = ap refusal_number (sym (same_why q line why))
 
-  pub explain-due : NumberDue (readRows q line 32) (reasonNumber (reasonOf q line))
-  unfolding reasonOf
-  explain-due = subst (NumberDue (readRows q line 32)) (of-reading (judgeOf q line 32)) (by_number q line 32)
+  pub explain_due : NumberDue (read_rows q line 32) (reason_number (reason_of q line))
+  unfolding reason_of
+  explain_due = subst (NumberDue (read_rows q line 32)) (of_reading (judge_of q line 32)) (by_number q line 32)
 
 -- counting in bytes changes no number
-same_number : (q : Question) (bytes : ℕ) (b : Because) (spot : Spot) → b.why ≡ (countedIn q bytes b spot).why
+same_number : (q : Question) (bytes : ℕ) (b : Because) (spot : Spot) → b.why ≡ (counted_in q bytes b spot).why
 same_number q bytes b (Asked f) = refl
 same_number q bytes b Whole = refl
 same_number q bytes b (Word i) = refl
 same_number q bytes b (Byte i) = refl
 
-in_bytes : (q : Question) (bytes : ℕ) (reason : Reason) → reasonNumber reason ≡ reasonNumber (inBytes q bytes reason)
-in_bytes q bytes Accepted = refl
-in_bytes q bytes (TurnedAway b) = ap refusalNumber (same_number q bytes b b.spot)
+in_bytes_lem : (q : Question) (bytes : ℕ) (reason : Reason) → reason_number reason ≡ reason_number (in_bytes q bytes reason)
+in_bytes_lem q bytes Accepted = refl
+in_bytes_lem q bytes (TurnedAway b) = ap refusal_number (same_number q bytes b b.spot)
 
-pub explain-bytes-due : (q : Question) (line : List ℕ) → NumberDue (readRows q (lineOn line) 32) (reasonNumber (reasonOn q line))
-unfolding reasonOn
-explain-bytes-due q line =
-    subst (NumberDue (readRows q (lineOn line) 32)) (in_bytes q (length line) (reasonOf q (lineOn line))) (explain-due q (lineOn line))
+pub explain_bytes_due : (q : Question) (line : List ℕ) → NumberDue (read_rows q (line_on line) 32) (reason_number (reason_on q line))
+unfolding reason_on
+explain_bytes_due q line =
+    subst (NumberDue (read_rows q (line_on line) 32)) (in_bytes_lem q (length line) (reason_of q (line_on line))) (explain_due q (line_on line))
 
 -- packed, it stands in the lowest eight bits
-packed : (reason : Reason) → reasonNumber reason < 256 → reasonNumber reason ≡ packedNumber (packedReason reason)
+packed : (reason : Reason) → reason_number reason < 256 → reason_number reason ≡ packed_number (packed_reason reason)
 packed Accepted small = refl
 packed (TurnedAway b) small = omega (arith, small)
 
-small-rows : (q : Question) (line : List ℕ) → Small (readRows q line 32)
-small-rows q line =
+small_rows : (q : Question) (line : List ℕ) → Small (read_rows q line 32)
+small_rows q line =
     (omega arith, (omega arith, (omega arith, (omega arith, (omega arith, (omega arith, (omega arith, (omega arith, (omega arith, (omega arith, (omega arith, tt)))))))))))
 
-small-number : (q : Question) (line : List ℕ) → reasonNumber (reasonOf q line) < 256
-small-number q line = below-256 (readRows q line 32) (reasonNumber (reasonOf q line)) (small-rows q line) (explain-due q line)
+small_number : (q : Question) (line : List ℕ) → reason_number (reason_of q line) < 256
+small_number q line = below_256 (read_rows q line 32) (reason_number (reason_of q line)) (small_rows q line) (explain_due q line)
 
-pub small-in-bytes : (q : Question) (line : List ℕ) → reasonNumber (reasonOn q line) < 256
-unfolding reasonOn
-small-in-bytes q line = omega (arith, in_bytes q (length line) (reasonOf q (lineOn line)), small-number q (lineOn line))
+pub small_in_bytes : (q : Question) (line : List ℕ) → reason_number (reason_on q line) < 256
+unfolding reason_on
+small_in_bytes q line = omega (arith, in_bytes_lem q (length line) (reason_of q (line_on line)), small_number q (line_on line))
 
-pub explain-packed-due : (q : Question) (line : List ℕ) → NumberDue (readRows q (lineOn line) 32) (packedNumber (packedOn q line))
-explain-packed-due q line =
-    subst (NumberDue (readRows q (lineOn line) 32)) (packed (reasonOn q line) (small-in-bytes q line)) (explain-bytes-due q line)
+pub explain_packed_due : (q : Question) (line : List ℕ) → NumberDue (read_rows q (line_on line) 32) (packed_number (packed_on q line))
+explain_packed_due q line =
+    subst (NumberDue (read_rows q (line_on line) 32)) (packed (reason_on q line) (small_in_bytes q line)) (explain_bytes_due q line)

@@ -12,5 +12,5 @@ NumberDue [] due = due ≡ 0
 NumberDue (row number given ∷ rows) due = (given × (due ≡ number)) ⊎ ((given → ⊥) × NumberDue rows due)
 
 -- the C side's answers carry their number in the lowest eight bits
-abbrev pub packedNumber : ℕ → ℕ
-packedNumber r = r % 256
+abbrev pub packed_number : ℕ → ℕ
+packed_number r = r % 256

@@ -4,17 +4,17 @@ use Rattle.std.specs.Prelude.{◌≡◌, ℕ, ◌/◌, ◌%◌}
 use Rattle.readings.specs.declared.Refusal.TheVariants as row
 use Rattle.readings.specs.declared.Reading.{Reading}
 use Rattle.readings.specs.declared.Reading.TheVariants.{Counted, Written, Values, Refused}
-use Rattle.promises.specs.ByNumber.{packedNumber}
+use Rattle.promises.specs.ByNumber.{packed_number}
 
 -- bits 16 to 31 of an answer
-abbrev pub upperHalf : ℕ → ℕ
-upperHalf r = r / 65536
+abbrev pub upper_half : ℕ → ℕ
+upper_half r = r / 65536
 
 -- its parts: bits 0 to 7, bits 8 to 15, and bits 16 to 31
 pub record Parts (r a b c : ℕ) : Type 0 where
-  pub number : packedNumber r ≡ a
+  pub number : packed_number r ≡ a
   pub middle : r / 256 % 256 ≡ b
-  pub upper : upperHalf r ≡ c
+  pub upper : upper_half r ≡ c
 
 -- what stands there for a reading: its number; HELLOALL's count, or the byte of CHECK and COUNT; how many values, or the place of CHARACTER and
 -- MANCHESTER

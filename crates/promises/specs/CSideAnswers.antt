@@ -3,11 +3,11 @@
 -- two bytes each, low first. Claimed of every question, every line of bytes, every output, and every answer that meets
 -- `bmc_read`'s contract.
 use Rattle.std.specs.Prelude.{List, ℕ, ◌/◌, length}
-use Rattle.packing.specs.Words.{asBytes, lineOn}
+use Rattle.packing.specs.Words.{as_bytes, line_on}
 use Rattle.questions.specs.declared.question.Question.{Question}
-use Rattle.acceptance.specs.Answer.{Sendable, reading_of, handedOut}
+use Rattle.acceptance.specs.Answer.{Sendable, reading_of, handed_out}
 use Rattle.c_reader.specs.ReadBytes.{ReadBytesDone}
-use Rattle.promises.specs.ByNumber.{packedNumber}
+use Rattle.promises.specs.ByNumber.{packed_number}
 use Rattle.promises.specs.WhereDue.{WhereDue}
 use Rattle.promises.specs.Demand2.{Due}
 use Rattle.promises.specs.CSide.{PackedAs}
@@ -17,5 +17,5 @@ use Rattle.promises.specs.CSide.{PackedAs}
 abbrev pub CSideAnswers : Type 0
 CSideAnswers =
     (q : Question) (line before : List ℕ)
-    → WhereDue packedNumber before (ReadBytesDone q line before) (Sendable q) (Due q (lineOn line) (length before / 2))
-    (λ values r. PackedAs r (reading_of q values)) (λ values. asBytes (handedOut q values))
+    → WhereDue packed_number before (ReadBytesDone q line before) (Sendable q) (Due q (line_on line) (length before / 2))
+    (λ values r. PackedAs r (reading_of q values)) (λ values. as_bytes (handed_out q values))

@@ -4,10 +4,10 @@
 -- `bmc_explain` answers 0 where that is accepted, and otherwise a number of 64 bits whose parts are those of the reason. In sixteen bits 65,535 stands for
 -- that and more.
 use Rattle.std.specs.Prelude.{◌≡◌, List, ℕ, ◌*◌, ◌/◌, ◌%◌, ◌≤◌, min, length}
-use Rattle.packing.specs.Words.{lineOn}
+use Rattle.packing.specs.Words.{line_on}
 use Rattle.questions.specs.declared.question.Question.{Question}
-use Rattle.readings.specs.Reading.{refusalNumber}
-use Rattle.reasons.specs.Reason.{reasonOf}
+use Rattle.readings.specs.Reading.{refusal_number}
+use Rattle.reasons.specs.Reason.{reason_of}
 use Rattle.reasons.specs.declared.Field.TheVariants as field
 use Rattle.reasons.specs.declared.Spot.{Spot}
 use Rattle.reasons.specs.declared.Spot.TheVariants.{Asked, Whole, Word, Byte}
@@ -16,8 +16,8 @@ use Rattle.reasons.specs.declared.Right.TheVariants.{One, Several}
 use Rattle.reasons.specs.declared.Because.{Because}
 use Rattle.reasons.specs.declared.Reason.{Reason}
 use Rattle.reasons.specs.declared.Reason.TheVariants.{Accepted, TurnedAway}
-use Rattle.c_reasons.specs.Explain.{inBytes, reasonOn, packedOn}
-use Rattle.promises.specs.ByNumber.{packedNumber}
+use Rattle.c_reasons.specs.Explain.{in_bytes, reason_on, packed_on}
+use Rattle.promises.specs.ByNumber.{packed_number}
 use Rattle.promises.specs.Demand1.{Returns}
 
 -- the one thing that would have passed: bit 11 is set and it stands in bits 48 to 63; where there are several these are 0. Bits 12 to 15 are always 0
@@ -27,7 +27,7 @@ RightParts r Several = (r / 2048 % 32 ≡ 0) × (r / 281474976710656 ≡ 0)
 
 -- bits 0 to 7 the number, bits 8 to 10 how it is placed, bits 16 to 31 the place, bits 32 to 47 what stood
 pub record WhyParts (r : ℕ) (b : Because) (how place : ℕ) : Type 0 where
-  pub number : packedNumber r ≡ refusalNumber b.why
+  pub number : packed_number r ≡ refusal_number b.why
   pub placed : r / 256 % 8 ≡ how
   pub at : r / 65536 % 65536 ≡ min place 65535
   pub stood : r / 4294967296 % 65536 ≡ min b.stood 65535
@@ -48,8 +48,8 @@ PackedWhy r Accepted = r ≡ 0
 PackedWhy r (TurnedAway b) = PackedAs r b b.spot
 
 pub record CSideWhy : Type 0 where
-  pub in_bytes : (q : Question) (line : List ℕ) (told reason : Reason) → Returns (reasonOn q line) told → Returns (reasonOf q (lineOn line)) reason
-      → told ≡ inBytes q (length line) reason
-  pub only-bytes : (line : List ℕ) (words : ℕ) → 1 ≤ words
-      → (length line ≡ 2 * words → length (lineOn line) ≡ words) × (length (lineOn line) ≡ words → length line ≡ 2 * words)
-  pub packed : (q : Question) (line : List ℕ) (r : ℕ) (told : Reason) → Returns (packedOn q line) r → Returns (reasonOn q line) told → PackedWhy r told
+  pub in_bytes_lem : (q : Question) (line : List ℕ) (told reason : Reason) → Returns (reason_on q line) told → Returns (reason_of q (line_on line)) reason
+      → told ≡ in_bytes q (length line) reason
+  pub only_bytes : (line : List ℕ) (words : ℕ) → 1 ≤ words
+      → (length line ≡ 2 * words → length (line_on line) ≡ words) × (length (line_on line) ≡ words → length line ≡ 2 * words)
+  pub packed : (q : Question) (line : List ℕ) (r : ℕ) (told : Reason) → Returns (packed_on q line) r → Returns (reason_on q line) told → PackedWhy r told

@@ -5,9 +5,9 @@
 use Rattle.std.specs.Prelude.{◌≡◌, true, cond, List, ℕ, ◌≤◌, leb, length}
 use Rattle.remainder.specs.Turned.{turned, weight}
 use Rattle.lines.specs.Line.{line_of}
-use Rattle.lines.specs.Write.{atFront}
-use Rattle.questions.specs.Question.{read_all, goodQuestion}
-use Rattle.questions.specs.Bytes.{answerBytes}
+use Rattle.lines.specs.Write.{at_front}
+use Rattle.questions.specs.Question.{read_all, good_question}
+use Rattle.questions.specs.Bytes.{answer_bytes}
 use Rattle.questions.specs.declared.question.Question.{Question}
 use Rattle.readings.specs.Reading.{number_of}
 use Rattle.readings.specs.declared.Reading.{Reading}
@@ -19,14 +19,14 @@ use Rattle.promises.specs.Demand1.{TurnedAway}
 -- a good READALL question, and a register's value for each of its devices, in address order
 pub record ReadsAll (q : Question) (values : List ℕ) : Type 0 where
   pub kind : q.kind ≡ read_all
-  pub good : goodQuestion q ≡ true
+  pub good : good_question q ≡ true
   pub sends : Sendable q
   pub number : length values ≡ q.n
   pub registers : Registers values
 
 -- the line of the table's answer bytes, with check byte 00h
-abbrev pub answerLine : Question → (values : List ℕ) → List ℕ
-answerLine q values = line_of (answerBytes q values 0x00)
+abbrev pub answer_line : Question → (values : List ℕ) → List ℕ
+answer_line q values = line_of (answer_bytes q values 0x00)
 
 -- damage on a line: some bits turned over, in any places, no character lost or added; one mask a word, and from one to `most` bits in all
 pub record Damage (line masks : List ℕ) (most : ℕ) : Type 0 where
@@ -35,8 +35,8 @@ pub record Damage (line masks : List ℕ) (most : ℕ) : Type 0 where
   pub few : weight masks ≤ most
 
 -- how many turned bits are always found: five with 1 to 14 devices, three with 15 to 32
-abbrev pub mostBits : (n : ℕ) → ℕ
-mostBits n = cond (leb n 14) 5 3
+abbrev pub most_bits : (n : ℕ) → ℕ
+most_bits n = cond (leb n 14) 5 3
 
 -- what is claimed of the reader as a call has it: its contract, an answer's number, how words are passed, as they are or as bytes, and when an answer
 -- stands for a reading
@@ -44,11 +44,11 @@ pub record Detects {Answer : Type 0} (Contract : Question → (line before after
     (passed : List ℕ → List ℕ) (StandsFor : Answer → Reading → Type 0) : Type 0 where
   -- undamaged, the line is accepted, given room, and its values stand at the front of the output, the rest as it was
   pub undamaged : (q : Question) (values : List ℕ) → ReadsAll q values → (before after : List ℕ) (r : Answer)
-      → length (passed values) ≤ length before → Contract q (passed (answerLine q values)) before after r
-      → StandsFor r (Values q.n) × (after ≡ atFront (passed values) before)
+      → length (passed values) ≤ length before → Contract q (passed (answer_line q values)) before after r
+      → StandsFor r (Values q.n) × (after ≡ at_front (passed values) before)
   -- damaged, it is turned away, and the output stays as it was
-  pub damaged : (q : Question) (values : List ℕ) → ReadsAll q values → (masks : List ℕ) → Damage (answerLine q values) masks (mostBits q.n)
-      → (before after : List ℕ) (r : Answer) → Contract q (passed (turned (answerLine q values) masks)) before after r
+  pub damaged : (q : Question) (values : List ℕ) → ReadsAll q values → (masks : List ℕ) → Damage (answer_line q values) masks (most_bits q.n)
+      → (before after : List ℕ) (r : Answer) → Contract q (passed (turned (answer_line q values) masks)) before after r
       → TurnedAway (number r) × (after ≡ before)
 
 abbrev pub Demand3 : Type 0

@@ -5,36 +5,36 @@
 -- device's registers ever change; and the line handed on is as long as the line taken.
 use Rattle.std.specs.Prelude.{◌≡◌, cond, List, ◌++◌, ℕ, suc, ◌*◌, ◌≤◌, ◌<◌, length}
 use Rattle.lines.specs.Line.{line_of}
-use Rattle.lines.specs.Write.{atFront}
-use Rattle.questions.specs.Bytes.{onWire, lowHigh}
-use Rattle.underway.specs.OnTheWay.{onTheWay}
-use Rattle.twin.specs.Step.{registersOf, StepDone}
+use Rattle.lines.specs.Write.{at_front}
+use Rattle.questions.specs.Bytes.{on_wire, low_high}
+use Rattle.underway.specs.OnTheWay.{on_the_way}
+use Rattle.twin.specs.Step.{registers_of, StepDone}
 use Rattle.twin.specs.declared.step.Stepped.{Stepped}
 use Rattle.twin.specs.declared.step.Stepped.TheVariants.{Handed}
 use Rattle.roundtrip.specs.Between.{held, reaches}
 use Rattle.roundtrip.specs.Commands.{CommandFor}
 
 -- the line that device k hands on of a command for it: one device more, one added to the alive byte, its own value before the others'
-abbrev pub commandHandedOn : (k : ℕ) (memory : List ℕ) {n : ℕ} {line : List ℕ} → CommandFor n k line → List ℕ
-commandHandedOn k memory c =
-    line_of (onTheWay c.question (suc k) 1 (lowHigh (held memory k c.question.reg) ++ onWire c.values))
+abbrev pub command_handed_on : (k : ℕ) (memory : List ℕ) {n : ℕ} {line : List ℕ} → CommandFor n k line → List ℕ
+command_handed_on k memory c =
+    line_of (on_the_way c.question (suc k) 1 (low_high (held memory k c.question.reg) ++ on_wire c.values))
 
 -- what a step of device k leaves of a line and of all registers
-pub record ByItsRule (n k : ℕ) (memory memoryLeft line out outAfter : List ℕ) (r : Stepped) : Type 0 where
+pub record ByItsRule (n k : ℕ) (memory memory_left line out out_after : List ℕ) (r : Stepped) : Type 0 where
   pub says : r ≡ Handed
   pub handed : List ℕ
-  pub stands : outAfter ≡ atFront handed out
-  pub equal-length : length handed ≡ length line
-  pub registers : length memoryLeft ≡ length memory
-  pub on-command : (c : CommandFor n k line)
-      → (handed ≡ commandHandedOn k memory c)
-      × ((x : ℕ) → held memoryLeft k x ≡ cond (reaches c.question k x) c.question.value (held memory k x))
-  pub on-another-line : (CommandFor n k line → ⊥) → (handed ≡ line) × (memoryLeft ≡ memory)
-  pub other-devices : (j : ℕ) → (j ≡ k → ⊥) → registersOf memoryLeft j ≡ registersOf memory j
+  pub stands : out_after ≡ at_front handed out
+  pub equal_length : length handed ≡ length line
+  pub registers : length memory_left ≡ length memory
+  pub on_command : (c : CommandFor n k line)
+      → (handed ≡ command_handed_on k memory c)
+      × ((x : ℕ) → held memory_left k x ≡ cond (reaches c.question k x) c.question.value (held memory k x))
+  pub on_another_line : (CommandFor n k line → ⊥) → (handed ≡ line) × (memory_left ≡ memory)
+  pub other_devices : (j : ℕ) → (j ≡ k → ⊥) → registers_of memory_left j ≡ registers_of memory j
 
 abbrev pub EachStep : Type 0
 EachStep =
-    (n k : ℕ) (memory memoryLeft line out outAfter : List ℕ) (r : Stepped)
+    (n k : ℕ) (memory memory_left line out out_after : List ℕ) (r : Stepped)
     → 1 ≤ n → n ≤ 32 → k < n → length memory ≡ 256 * n → length line ≤ length out
-    → StepDone n k memory memoryLeft line out outAfter r
-    → ByItsRule n k memory memoryLeft line out outAfter r
+    → StepDone n k memory memory_left line out out_after r
+    → ByItsRule n k memory memory_left line out out_after r

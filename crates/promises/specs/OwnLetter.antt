@@ -7,7 +7,7 @@ use Rattle.questions.specs.Question.{covers}
 use Rattle.questions.specs.declared.question.Question.{Question}
 use Rattle.jobs.specs.declared.Header.{Header}
 use Rattle.jobs.specs.Format.{Entry}
-use Rattle.letters.specs.Letters.{isGoodWrite}
+use Rattle.letters.specs.Letters.{is_good_write}
 use Rattle.letters.specs.Meaning.{Alike}
 use Rattle.promises.specs.Certificate.{CertificateText}
 
@@ -17,6 +17,6 @@ pub record OwnLetter : Type 0 where
   pub own : (h h' : Header) (es es' : List Entry) (text text' : List ℕ) (c : CertificateText h es text) (c' : CertificateText h' es' text')
       → (a : ℕ) → Forall₂ (Alike a) c.heard c'.heard → c.line a ≡ c'.line a
   -- a device that a good write covers is below 32,
-  pub covered-below : (q : Question) → isGoodWrite q ≡ true → (a : ℕ) → covers q a ≡ true → a < 32
+  pub covered_below : (q : Question) → is_good_write q ≡ true → (a : ℕ) → covers q a ≡ true → a < 32
   -- so that no other has a line
-  pub lettered-below : (h : Header) (es : List Entry) (text : List ℕ) (c : CertificateText h es text) (a : ℕ) → 32 ≤ a → c.line a ≡ []
+  pub lettered_below : (h : Header) (es : List Entry) (text : List ℕ) (c : CertificateText h es text) (a : ℕ) → 32 ≤ a → c.line a ≡ []

@@ -5,45 +5,45 @@ use mathlib.Core.List.{List, [], ◌∷◌, ◌++◌}
 use Prim.Native.Nat.{ℕ, zero, suc, ◌+◌, ◌*◌, ◌%◌, ◌≤◌}
 use native.Mathlib.Omega.{arith}
 use lib.ListN.{length, length-append}
-use Rattle.pec.specs.Pec.{pecOf}
-use Rattle.packing.specs.Words.{asBytes}
+use Rattle.pec.specs.Pec.{pec_of}
+use Rattle.packing.specs.Words.{as_bytes}
 use borrow.Author.Tests.{eq-eqb, ne_eqb}
 use Rattle.questions.specs.Shape.{shape_of}
-use Rattle.questions.specs.Bytes.{lowHigh, onWire, aliveByte, sealed, fillPairs, commandBytes}
+use Rattle.questions.specs.Bytes.{low_high, on_wire, alive_byte, sealed, fill_pairs, command_bytes}
 use Rattle.questions.specs.declared.question.Question.{Question}
-use Rattle.questions.proofs.ByKind.{of-hello, of-write, of-read}
+use Rattle.questions.proofs.ByKind.{of_hello, of_write, of_read}
 
 -- the alive byte, where the bench has it on and where not
-pub alive-present : (q : Question) (added : ℕ) → q.alive ≡ 1 → aliveByte q added ≡ (q.seed + added) % 256 ∷ []
-alive-present q added on = ap (λ (t : Bool). cond t ((q.seed + added) % 256 ∷ []) []) (eq-eqb q.alive 1 on)
+pub alive_present : (q : Question) (added : ℕ) → q.alive ≡ 1 → alive_byte q added ≡ (q.seed + added) % 256 ∷ []
+alive_present q added on = ap (λ (t : Bool). cond t ((q.seed + added) % 256 ∷ []) []) (eq-eqb q.alive 1 on)
 
-pub alive-absent : (q : Question) (added : ℕ) → (q.alive ≡ 1 → ⊥) → aliveByte q added ≡ []
-alive-absent q added off = ap (λ (t : Bool). cond t ((q.seed + added) % 256 ∷ []) []) (ne_eqb q.alive 1 off)
+pub alive_absent : (q : Question) (added : ℕ) → (q.alive ≡ 1 → ⊥) → alive_byte q added ≡ []
+alive_absent q added off = ap (λ (t : Bool). cond t ((q.seed + added) % 256 ∷ []) []) (ne_eqb q.alive 1 off)
 
-pub alive-off : (q : Question) (added : ℕ) → q.alive ≡ 0 → aliveByte q added ≡ []
-alive-off q added e = alive-absent q added (λ one. omega arith)
+pub alive_off : (q : Question) (added : ℕ) → q.alive ≡ 0 → alive_byte q added ≡ []
+alive_off q added e = alive_absent q added (λ one. omega arith)
 
 -- covered bytes, PEC, alive byte
-pub sealed-size : (q : Question) (added : ℕ) (covered : List ℕ) → length (sealed q added covered) ≡ length covered + 1 + length (aliveByte q added)
+pub sealed_size : (q : Question) (added : ℕ) (covered : List ℕ) → length (sealed q added covered) ≡ length covered + 1 + length (alive_byte q added)
 unfolding sealed
-sealed-size q added covered = omega (arith, length-append covered (pecOf covered ∷ aliveByte q added))
+sealed_size q added covered = omega (arith, length-append covered (pec_of covered ∷ alive_byte q added))
 
-pub length_pairs : (n : ℕ) → length (fillPairs n) ≡ 2 * n
-unfolding fillPairs
+pub length_pairs : (n : ℕ) → length (fill_pairs n) ≡ 2 * n
+unfolding fill_pairs
 length_pairs zero = refl
 length_pairs (suc n) = let h = length_pairs n in omega arith
 
 -- ---- the command of each form
 
 module _ (q : Question) where
-  pub hello-command : q.kind ≡ 0 → commandBytes q ≡ (shape_of q).first ∷ 0 ∷ 0 ∷ []
-  unfolding commandBytes
-  hello-command e = of-hello q.kind _ _ _ e
+  pub hello_command : q.kind ≡ 0 → command_bytes q ≡ (shape_of q).first ∷ 0 ∷ 0 ∷ []
+  unfolding command_bytes
+  hello_command e = of_hello q.kind _ _ _ e
 
-  pub write-command : 1 ≤ q.kind → q.kind ≤ 2 → commandBytes q ≡ sealed q 0 ((shape_of q).first ∷ q.reg ∷ lowHigh q.value)
-  unfolding commandBytes
-  write-command lo hi = of-write q.kind _ _ _ lo hi
+  pub write_command : 1 ≤ q.kind → q.kind ≤ 2 → command_bytes q ≡ sealed q 0 ((shape_of q).first ∷ q.reg ∷ low_high q.value)
+  unfolding command_bytes
+  write_command lo hi = of_write q.kind _ _ _ lo hi
 
-  pub read-command : 3 ≤ q.kind → commandBytes q ≡ sealed q 0 ((shape_of q).first ∷ q.reg ∷ 0 ∷ []) ++ fillPairs (shape_of q).values
-  unfolding commandBytes onWire asBytes
-  read-command lo = of-read q.kind _ _ _ lo
+  pub read_command : 3 ≤ q.kind → command_bytes q ≡ sealed q 0 ((shape_of q).first ∷ q.reg ∷ 0 ∷ []) ++ fill_pairs (shape_of q).values
+  unfolding command_bytes on_wire as_bytes
+  read_command lo = of_read q.kind _ _ _ lo

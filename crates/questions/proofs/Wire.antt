@@ -3,18 +3,18 @@ use mathlib.Core.Path.{◌≡◌, ap, ◌∙◌}
 use mathlib.Core.List.{List, [], ◌∷◌, ◌++◌, reverse, reverse-cons, reverse-append}
 use Prim.Native.Nat.{ℕ, ◌*◌}
 use lib.ListN.{length, length-reverse}
-use Rattle.packing.specs.Words.{asBytes}
-use Rattle.packing.proofs.Back.{bytes-append, length-bytes}
-use Rattle.questions.specs.Bytes.{lowHigh, onWire}
+use Rattle.packing.specs.Words.{as_bytes}
+use Rattle.packing.proofs.Back.{bytes_append, length_bytes}
+use Rattle.questions.specs.Bytes.{low_high, on_wire}
 
-pub wire-cons : (v : ℕ) (values : List ℕ) → onWire (v ∷ values) ≡ onWire values ++ lowHigh v
-unfolding onWire asBytes
-wire-cons v values = ap asBytes (reverse-cons v values) ∙ bytes-append (reverse values) (v ∷ [])
+pub wire_cons : (v : ℕ) (values : List ℕ) → on_wire (v ∷ values) ≡ on_wire values ++ low_high v
+unfolding on_wire as_bytes
+wire_cons v values = ap as_bytes (reverse-cons v values) ∙ bytes_append (reverse values) (v ∷ [])
 
-pub wire-next : (values : List ℕ) (v : ℕ) → onWire (values ++ (v ∷ [])) ≡ lowHigh v ++ onWire values
-unfolding onWire asBytes
-wire-next values v = ap asBytes (reverse-append values (v ∷ []))
+pub wire_next : (values : List ℕ) (v : ℕ) → on_wire (values ++ (v ∷ [])) ≡ low_high v ++ on_wire values
+unfolding on_wire as_bytes
+wire_next values v = ap as_bytes (reverse-append values (v ∷ []))
 
-pub length-wire : (values : List ℕ) → length (onWire values) ≡ 2 * length values
-unfolding onWire
-length-wire values = length-bytes (reverse values) ∙ ap (λ (n : ℕ). 2 * n) (length-reverse values)
+pub length_wire : (values : List ℕ) → length (on_wire values) ≡ 2 * length values
+unfolding on_wire
+length_wire values = length_bytes (reverse values) ∙ ap (λ (n : ℕ). 2 * n) (length-reverse values)

@@ -8,29 +8,29 @@ abbrev pub asking : (kind n alive reg value device seed : ℕ) → Question
 asking kind n alive reg value device seed =
     record { kind = kind; n = n; alive = alive; reg = reg; value = value; device = device; seed = seed }
 
-abbrev pub aliveOn : Question → Question
-aliveOn q =
+abbrev pub alive_on : Question → Question
+alive_on q =
     record { kind = q.kind; n = q.n; alive = 1; reg = q.reg; value = q.value; device = q.device; seed = q.seed }
 
 -- the kinds, by number
-abbrev pub helloAll : ℕ
-helloAll = 0
+abbrev pub hello_all : ℕ
+hello_all = 0
 
 abbrev pub write_all : ℕ
 write_all = 1
 
-abbrev pub writeDevice : ℕ
-writeDevice = 2
+abbrev pub write_device : ℕ
+write_device = 2
 
 abbrev pub read_all : ℕ
 read_all = 3
 
-abbrev pub readDevice : ℕ
-readDevice = 4
+abbrev pub read_device : ℕ
+read_device = 4
 
 module _ {ℓ} {A : Type ℓ} where
   -- one entry for each kind, in the order of their numbers; a kind above 4, which no good question has, takes the last
-  abbrev pub by_kind : ℕ → (hello writesAll writesOne readsAll readsOne : A) → A
+  abbrev pub by_kind : ℕ → (hello writes_all writes_one reads_all reads_one : A) → A
   by_kind zero h wa wo ra ro = h
   by_kind (suc zero) h wa wo ra ro = wa
   by_kind (suc (suc zero)) h wa wo ra ro = wo
@@ -38,23 +38,23 @@ module _ {ℓ} {A : Type ℓ} where
   by_kind (suc (suc (suc (suc k)))) h wa wo ra ro = ro
 
   -- one entry for HELLOALL, one for both writes, one for both reads
-  abbrev pub byForm : ℕ → (hello writes reads : A) → A
-  byForm k h w r = by_kind k h w w r r
+  abbrev pub by_form : ℕ → (hello writes reads : A) → A
+  by_form k h w r = by_kind k h w w r r
 
 -- n is 1..32, and for kinds 2 and 4 the command's device is below n
-unfoldable pub goodChain : Question → Bool
-goodChain q =
+unfoldable pub good_chain : Question → Bool
+good_chain q =
     leb 1 q.n && leb q.n 32
-    && (not (eqb q.kind writeDevice || eqb q.kind readDevice) || ltb q.device q.n)
+    && (not (eqb q.kind write_device || eqb q.kind read_device) || ltb q.device q.n)
 
 -- QUESTION is given exactly when this is false: kind above 4; alive not 0 or 1; for kinds 1 to 4, n not 1..32; for kinds 2 and 4, the
 -- command's device n or more.
-unfoldable pub goodQuestion : Question → Bool
-goodQuestion q = leb q.kind 4 && leb q.alive 1 && (eqb q.kind helloAll || goodChain q)
+unfoldable pub good_question : Question → Bool
+good_question q = leb q.kind 4 && leb q.alive 1 && (eqb q.kind hello_all || good_chain q)
 
 -- the devices whose register a good question writes or reads
-abbrev pub coversAt : (kind : ℕ) → Question → ℕ → Bool
-coversAt kind q a = by_kind kind false (ltb a q.n) (eqb a q.device) (ltb a q.n) (eqb a q.device)
+abbrev pub covers_at : (kind : ℕ) → Question → ℕ → Bool
+covers_at kind q a = by_kind kind false (ltb a q.n) (eqb a q.device) (ltb a q.n) (eqb a q.device)
 
 unfoldable pub covers : Question → ℕ → Bool
-covers q a = coversAt q.kind q a
+covers q a = covers_at q.kind q a

@@ -1,6 +1,6 @@
 // A question as plain numbers, bad ones included, and what follows from its kind.
 ghost use Rattle.std.specs.Prelude.{◌≡◌};
-ghost use Rattle.questions.specs.Question.{asking, goodQuestion, goodChain, covers};
+ghost use Rattle.questions.specs.Question.{asking, good_question, good_chain, covers};
 ghost use Rattle.questions.specs.Shape.{shape_of};
 
 pub const HELLOALL: u8 = 0;
@@ -53,7 +53,7 @@ pub fn ask(kind: u8, n: u8, alive: u8, reg: u8, value: u16, device: u8, seed: u8
 
 // Row 1, QUESTION, is given where this is false.
 pub fn is_good(q: Question) -> bool
-    ensures { result ≡ goodQuestion q }
+    ensures { result ≡ good_question q }
 {
     let kind = q.kind;
     if 4 < kind {
@@ -70,7 +70,7 @@ pub fn is_good(q: Question) -> bool
 
 // The part of row 1 for the kinds that look at the chain.
 fn is_good_chain(q: Question) -> bool
-    ensures { result ≡ goodChain q }
+    ensures { result ≡ good_chain q }
 {
     if q.n < 1 {
         return false;

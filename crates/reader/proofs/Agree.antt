@@ -4,9 +4,9 @@ use mathlib.Core.Path.{sym, ◌∙◌}
 use Rattle.ground.specs.Agree.{Settled, SettledIn}
 use Rattle.reader.proofs.read.read.Reads as read
 
-pub read-settled : Settled read.Post
-read-settled l given r r' left left' p q = p.says ∙ sym q.says
+pub read_settled : Settled read.Post
+read_settled l given r r' left left' p q = p.says ∙ sym q.says
 
 -- the output
-pub read-settled-out : SettledIn (λ l left. left.1.1.0.now) read.Post
-read-settled-out l given r r' left left' p q = p.leaves ∙ sym q.leaves
+pub read_settled_out : SettledIn (λ l left. left.1.1.0.now) read.Post
+read_settled_out l given r r' left left' p q = p.leaves ∙ sym q.leaves

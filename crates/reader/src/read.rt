@@ -1,11 +1,11 @@
 // The reader's call.
 ghost use Rattle.std.specs.Prelude.{◌≡◌, ◌+◌, ◌*◌, ◌≤◌, ◌<◌, length, get_or};
-ghost use Rattle.lines.specs.Write.{atFront};
-ghost use Rattle.contents.specs.InOrder.{judgeBytes};
-ghost use Rattle.readings.specs.Reading.{valuesTaken};
-ghost use Rattle.judging.specs.Judge.{screenOf};
+ghost use Rattle.lines.specs.Write.{at_front};
+ghost use Rattle.contents.specs.InOrder.{judge_bytes};
+ghost use Rattle.readings.specs.Reading.{values_taken};
+ghost use Rattle.judging.specs.Judge.{screen_of};
 ghost use Rattle.readings.specs.declared.Screened.TheVariants.{Passed};
-ghost use Rattle.reader.specs.Read.{ReadDone, ReadOff, Carried, valuesIn};
+ghost use Rattle.reader.specs.Read.{ReadDone, ReadOff, Carried, values_in};
 
 use contents::judge_bytes;
 use judging::screen;
@@ -27,7 +27,7 @@ pub fn read(q: Question, line: &[u16], out: &mut [u16]) -> Reading
 
 // A line that rows 1 to 6 let pass. Its bytes are read off it once, for the other rows and for the values.
 fn read_passed(q: Question, line: &[u16], out: &mut [u16]) -> Reading
-    requires { screenOf q line.now (length out.old) ≡ Passed }
+    requires { screen_of q line.now (length out.old) ≡ Passed }
     ensures { ReadDone q line.now out.old out.new result }
 {
     let mut bytes = blank_bytes();
@@ -45,7 +45,7 @@ fn blank_bytes() -> [u8; 72]
 
 // What rows 7 to 11 say of an answer's bytes, and the values that these carry.
 fn read_off(q: Question, bytes: &[u8], out: &mut [u16]) -> Reading
-    requires { Carried bytes.now (valuesTaken (judgeBytes q bytes.now)) (length out.old) }
+    requires { Carried bytes.now (values_taken (judge_bytes q bytes.now)) (length out.old) }
     ensures { ReadOff q bytes.now out.old out.new result }
 {
     let reading = judge_bytes(q, bytes);
@@ -56,7 +56,7 @@ fn read_off(q: Question, bytes: &[u8], out: &mut [u16]) -> Reading
 // The m values that an answer's bytes carry, at the front of the output: the highest address comes first in the bytes, the lowest in the output.
 fn put_values(bytes: &[u8], m: usize, out: &mut [u16])
     requires { Carried bytes.now m (length out.old) }
-    ensures { out.new ≡ atFront (valuesIn bytes.now m) out.old }
+    ensures { out.new ≡ at_front (values_in bytes.now m) out.old }
 {
     let mut k = 0;
     while k < m {
@@ -68,7 +68,7 @@ fn put_values(bytes: &[u8], m: usize, out: &mut [u16])
 // Of m values, the one that stands k devices from the lowest: low byte, high byte.
 fn value_in(bytes: &[u8], m: usize, k: usize) -> u16
     requires { (k < m) × (2 * m + 2 ≤ length bytes.now) }
-    ensures { result ≡ get_or (valuesIn bytes.now m) k 0 }
+    ensures { result ≡ get_or (values_in bytes.now m) k 0 }
 {
     let at = 2 + 2 * (m - 1 - k);
     join(bytes[at], bytes[at + 1])

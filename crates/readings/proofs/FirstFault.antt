@@ -6,8 +6,8 @@ use mathlib.Core.List.{List, [], ◌∷◌, ◌++◌}
 use Prim.Native.Nat.{ℕ, zero, suc}
 use native.Mathlib.Omega.{arith}
 use lib.ListN.{get_or}
-use Rattle.readings.specs.Reading.{refusalNumber, number_of}
-use Rattle.readings.specs.FirstFault.{givenUnless, firstFault, said}
+use Rattle.readings.specs.Reading.{refusal_number, number_of}
+use Rattle.readings.specs.FirstFault.{given_unless, first_fault, said}
 use Rattle.readings.specs.declared.Refusal.{Refusal}
 use Rattle.readings.specs.declared.Refusal.TheVariants.{Question, Room, Length, Character, Frame, Manchester, Echo, Pec, Alive, Check, Count}
 use Rattle.readings.specs.declared.Reading.{Reading}
@@ -17,16 +17,16 @@ use Rattle.readings.specs.declared.Screened.TheVariants.{Passed, Faulty}
 -- ---- where an answer passes
 
 -- each row has passed, by its place in the list
-pub each-passed : (rows : List Screened) → firstFault rows ≡ Passed → (k : ℕ) → get_or rows k Passed ≡ Passed
-each-passed [] e k = refl
-each-passed (Passed ∷ rows) e zero = refl
-each-passed (Passed ∷ rows) e (suc k) = each-passed rows e k
-each-passed (Faulty why ∷ rows) e k = absurd (let z : ◌≡◌ {A = ℕ} 0 1 = cc in omega arith)
+pub each_passed : (rows : List Screened) → first_fault rows ≡ Passed → (k : ℕ) → get_or rows k Passed ≡ Passed
+each_passed [] e k = refl
+each_passed (Passed ∷ rows) e zero = refl
+each_passed (Passed ∷ rows) e (suc k) = each_passed rows e k
+each_passed (Faulty why ∷ rows) e k = absurd (let z : ◌≡◌ {A = ℕ} 0 1 = cc in omega arith)
 
 -- and what a row asks for is so
-pub asked-is-so : (why : Refusal) (t : Bool) → givenUnless why t ≡ Passed → t ≡ true
-asked-is-so why true e = refl
-asked-is-so why false e = absurd (let z : ◌≡◌ {A = ℕ} 0 1 = cc in omega arith)
+pub asked_is_so : (why : Refusal) (t : Bool) → given_unless why t ≡ Passed → t ≡ true
+asked_is_so why true e = refl
+asked_is_so why false e = absurd (let z : ◌≡◌ {A = ℕ} 0 1 = cc in omega arith)
 
 -- ---- what holds of every row, and of passing, holds of the first that is given
 
@@ -34,36 +34,36 @@ pub data Each (P : Screened → Type 0) : List Screened → Type 0 where
   none : Each P []
   next : {s : Screened} {rows : List Screened} → P s → Each P rows → Each P (s ∷ rows)
 
-pub first-of-each : (P : Screened → Type 0) → P Passed → (rows : List Screened) → Each P rows → P (firstFault rows)
-first-of-each P pass [] none = pass
-first-of-each P pass (Passed ∷ rows) (next row later) = first-of-each P pass rows later
-first-of-each P pass (Faulty why ∷ rows) (next row later) = row
+pub first_of_each : (P : Screened → Type 0) → P Passed → (rows : List Screened) → Each P rows → P (first_fault rows)
+first_of_each P pass [] none = pass
+first_of_each P pass (Passed ∷ rows) (next row later) = first_of_each P pass rows later
+first_of_each P pass (Faulty why ∷ rows) (next row later) = row
 
 -- ---- some rows, then others
 
-pub said-joined : (rows others : List Screened) (taken : Reading)
-    → said (firstFault (rows ++ others)) taken ≡ said (firstFault rows) (said (firstFault others) taken)
-said-joined [] others taken = refl
-said-joined (Passed ∷ rows) others taken = said-joined rows others taken
-said-joined (Faulty why ∷ rows) others taken = refl
+pub said_joined : (rows others : List Screened) (taken : Reading)
+    → said (first_fault (rows ++ others)) taken ≡ said (first_fault rows) (said (first_fault others) taken)
+said_joined [] others taken = refl
+said_joined (Passed ∷ rows) others taken = said_joined rows others taken
+said_joined (Faulty why ∷ rows) others taken = refl
 
 -- ---- what is said
 
 -- no row has the number 0
-pub no-row-is-zero : (why : Refusal) → refusalNumber why ≡ 0 → ⊥
-no-row-is-zero Question e = omega arith
-no-row-is-zero Room e = omega arith
-no-row-is-zero Length e = omega arith
-no-row-is-zero (Character i) e = omega arith
-no-row-is-zero Frame e = omega arith
-no-row-is-zero (Manchester i) e = omega arith
-no-row-is-zero Echo e = omega arith
-no-row-is-zero Pec e = omega arith
-no-row-is-zero Alive e = omega arith
-no-row-is-zero (Check b) e = omega arith
-no-row-is-zero (Count b) e = omega arith
+pub no_row_is_zero : (why : Refusal) → refusal_number why ≡ 0 → ⊥
+no_row_is_zero Question e = omega arith
+no_row_is_zero Room e = omega arith
+no_row_is_zero Length e = omega arith
+no_row_is_zero (Character i) e = omega arith
+no_row_is_zero Frame e = omega arith
+no_row_is_zero (Manchester i) e = omega arith
+no_row_is_zero Echo e = omega arith
+no_row_is_zero Pec e = omega arith
+no_row_is_zero Alive e = omega arith
+no_row_is_zero (Check b) e = omega arith
+no_row_is_zero (Count b) e = omega arith
 
 -- so an answer that is accepted passed
-pub accepted-passed : (s : Screened) (taken : Reading) → number_of (said s taken) ≡ 0 → s ≡ Passed
-accepted-passed Passed taken e = refl
-accepted-passed (Faulty why) taken e = absurd (no-row-is-zero why e)
+pub accepted_passed : (s : Screened) (taken : Reading) → number_of (said s taken) ≡ 0 → s ≡ Passed
+accepted_passed Passed taken e = refl
+accepted_passed (Faulty why) taken e = absurd (no_row_is_zero why e)

@@ -4,7 +4,7 @@ use mathlib.Core.List.{List, [], ◌∷◌}
 use Prim.Native.Nat.{ℕ}
 use denote.Enum.Declared.{tag_of}
 use types.Run.{OneOf, miss}
-use Rattle.readings.specs.Reading.{refusalPlace, refusalByte, count_of, valuesTaken}
+use Rattle.readings.specs.Reading.{refusal_place, refusal_byte, count_of, values_taken}
 use Rattle.readings.specs.declared.Refusal.{Refusal}
 use Rattle.readings.specs.declared.Refusal.TheVariants.{Question, Room, Length, Character, Frame, Manchester, Echo, Pec, Alive, Check, Count}
 use Rattle.readings.specs.declared.Reading.{Reading}
@@ -20,7 +20,7 @@ placeless = 0 ∷ 1 ∷ 2 ∷ 4 ∷ 6 ∷ 7 ∷ 8 ∷ 9 ∷ 10 ∷ []
 abbrev pub byteless : List ℕ
 byteless = 0 ∷ 1 ∷ 2 ∷ 3 ∷ 4 ∷ 5 ∷ 6 ∷ 7 ∷ 8 ∷ []
 
-pub no_place : (why : Refusal) → OneOf placeless (tag_of refusal.the_type why) → 0 ≡ refusalPlace why
+pub no_place : (why : Refusal) → OneOf placeless (tag_of refusal.the_type why) → 0 ≡ refusal_place why
 no_place Question h = refl
 no_place Room h = refl
 no_place Length h = refl
@@ -33,7 +33,7 @@ no_place Alive h = refl
 no_place (Check b) h = refl
 no_place (Count b) h = refl
 
-pub no_byte : (why : Refusal) → OneOf byteless (tag_of refusal.the_type why) → 0 ≡ refusalByte why
+pub no_byte : (why : Refusal) → OneOf byteless (tag_of refusal.the_type why) → 0 ≡ refusal_byte why
 no_byte Question h = refl
 no_byte Room h = refl
 no_byte Length h = refl
@@ -57,21 +57,21 @@ countless = 1 ∷ 2 ∷ 3 ∷ []
 abbrev pub valueless : List ℕ
 valueless = 0 ∷ 1 ∷ 3 ∷ []
 
-pub all-zero : (f : Reading → ℕ) → ((n : ℕ) → 0 ≡ f (Counted n)) → 0 ≡ f Written → ((m : ℕ) → 0 ≡ f (Values m))
+pub all_zero : (f : Reading → ℕ) → ((n : ℕ) → 0 ≡ f (Counted n)) → 0 ≡ f Written → ((m : ℕ) → 0 ≡ f (Values m))
     → (r : Reading) → OneOf accepted (tag_of reading.the_type r) → 0 ≡ f r
-all-zero f counted written values (Counted n) h = counted n
-all-zero f counted written values Written h = written
-all-zero f counted written values (Values m) h = values m
-all-zero f counted written values (Refused why) h = absurd (miss accepted 3 tt h)
+all_zero f counted written values (Counted n) h = counted n
+all_zero f counted written values Written h = written
+all_zero f counted written values (Values m) h = values m
+all_zero f counted written values (Refused why) h = absurd (miss accepted 3 tt h)
 
-pub no-count : (r : Reading) → OneOf countless (tag_of reading.the_type r) → 0 ≡ count_of r
-no-count (Counted n) h = absurd (miss countless 0 tt h)
-no-count Written h = refl
-no-count (Values m) h = refl
-no-count (Refused why) h = refl
+pub no_count : (r : Reading) → OneOf countless (tag_of reading.the_type r) → 0 ≡ count_of r
+no_count (Counted n) h = absurd (miss countless 0 tt h)
+no_count Written h = refl
+no_count (Values m) h = refl
+no_count (Refused why) h = refl
 
-pub no-values : (r : Reading) → OneOf valueless (tag_of reading.the_type r) → 0 ≡ valuesTaken r
-no-values (Counted n) h = refl
-no-values Written h = refl
-no-values (Values m) h = absurd (miss valueless 2 tt h)
-no-values (Refused why) h = refl
+pub no_values : (r : Reading) → OneOf valueless (tag_of reading.the_type r) → 0 ≡ values_taken r
+no_values (Counted n) h = refl
+no_values Written h = refl
+no_values (Values m) h = absurd (miss valueless 2 tt h)
+no_values (Refused why) h = refl

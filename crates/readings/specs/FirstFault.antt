@@ -8,15 +8,15 @@ use Rattle.readings.specs.declared.Screened.{Screened}
 use Rattle.readings.specs.declared.Screened.TheVariants.{Passed, Faulty}
 
 -- a row that asks for something, and is given where that is not so
-abbrev pub givenUnless : Refusal → Bool → Screened
-givenUnless why true = Passed
-givenUnless why false = Faulty why
+abbrev pub given_unless : Refusal → Bool → Screened
+given_unless why true = Passed
+given_unless why false = Faulty why
 
 -- the first row of the list that is given
-abbrev pub firstFault : List Screened → Screened
-firstFault [] = Passed
-firstFault (Passed ∷ rows) = firstFault rows
-firstFault (Faulty why ∷ rows) = Faulty why
+abbrev pub first_fault : List Screened → Screened
+first_fault [] = Passed
+first_fault (Passed ∷ rows) = first_fault rows
+first_fault (Faulty why ∷ rows) = Faulty why
 
 -- what is said where rows say this, and this reading is taken where they pass
 abbrev pub said : Screened → Reading → Reading

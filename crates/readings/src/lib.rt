@@ -1,7 +1,7 @@
 // What the reader says, in the words of document 01's table "Turned away".
 ghost use Rattle.std.specs.Prelude.{◌≡◌};
-ghost use Rattle.readings.specs.Reading.{refusalNumber, refusalPlace, refusalByte, number_of, place_of, byte_of, count_of, valuesTaken};
-ghost use Rattle.readings.specs.Packed.{packedReading};
+ghost use Rattle.readings.specs.Reading.{refusal_number, refusal_place, refusal_byte, number_of, place_of, byte_of, count_of, values_taken};
+ghost use Rattle.readings.specs.Packed.{packed_reading};
 
 // Rows 1 to 11, in their order; a place or a byte where the row has one.
 #[derive(Drop)]
@@ -37,7 +37,7 @@ pub enum Screened {
 
 // Document 01's number of a row.
 fn refusal_number(why: Refusal) -> u8
-    ensures { result ≡ refusalNumber why }
+    ensures { result ≡ refusal_number why }
 {
     match why {
         Refusal::Question => 1,
@@ -56,7 +56,7 @@ fn refusal_number(why: Refusal) -> u8
 
 // The place of a row that has one, else 0.
 fn refusal_place(why: Refusal) -> usize
-    ensures { result ≡ refusalPlace why }
+    ensures { result ≡ refusal_place why }
 {
     match why {
         Refusal::Character(i) => i,
@@ -67,7 +67,7 @@ fn refusal_place(why: Refusal) -> usize
 
 // The byte of a row that has one, else 0.
 fn refusal_byte(why: Refusal) -> u8
-    ensures { result ≡ refusalByte why }
+    ensures { result ≡ refusal_byte why }
 {
     match why {
         Refusal::Check(b) => b,
@@ -118,7 +118,7 @@ pub fn count_of(reading: Reading) -> u8
 
 // How many values a reading hands out.
 pub fn values_taken(reading: Reading) -> usize
-    ensures { result ≡ valuesTaken reading }
+    ensures { result ≡ values_taken reading }
 {
     match reading {
         Reading::Values(m) => m,
@@ -128,7 +128,7 @@ pub fn values_taken(reading: Reading) -> usize
 
 // A reading as one number: bits 0 to 7 the number; bits 8 to 15 the byte, or the count; bits 16 to 31 the place, or how many values were written.
 pub fn packed_reading(reading: Reading) -> u32
-    ensures { result ≡ packedReading reading }
+    ensures { result ≡ packed_reading reading }
 {
     let byte = byte_of(reading);
     let count = count_of(reading);

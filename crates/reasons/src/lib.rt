@@ -2,10 +2,10 @@
 // passed there where there is but one. The reader is asked as it stands; for the rows that carry no place the line is looked at once more.
 ghost use Rattle.std.specs.Prelude.{◌≡◌};
 ghost use Rattle.ground.specs.Sweep.{tabulated};
-ghost use Rattle.pec.specs.Pec.{pecOf};
-ghost use Rattle.lines.specs.Line.{byteAt};
-ghost use Rattle.reasons.specs.Reason.{fieldIn, badField, deviceRight, fieldRight, atField, atLine, atWord, atByte, lastPlace, atEnds};
-ghost use Rattle.reasons.specs.Reason.{askedByte, asAsked, echoPlace, atEcho, atPec, atAlive, atCheck, becauseOf, reasonOf, reasonNumber};
+ghost use Rattle.pec.specs.Pec.{pec_of};
+ghost use Rattle.lines.specs.Line.{byte_at};
+ghost use Rattle.reasons.specs.Reason.{field_in, bad_field, device_right, field_right, at_field, at_line, at_word, at_byte, last_place, at_ends};
+ghost use Rattle.reasons.specs.Reason.{asked_byte, as_asked, echo_place, at_echo, at_pec, at_alive, at_check, because_of, reason_of, reason_number};
 
 use characters::{PREAMBLE, STOP};
 use lines::read::byte_at;
@@ -57,7 +57,7 @@ pub enum Reason {
 
 // Why the reader takes an answer or turns it away. There is room for any answer's values, so ROOM is never the reason.
 pub fn explain(q: Question, line: &[u16]) -> Reason
-    ensures { result ≡ reasonOf q line.now }
+    ensures { result ≡ reason_of q line.now }
 {
     let mut values: [u16; 32] = [0; 32];
     let reading = read(q, line, &mut values);
@@ -71,7 +71,7 @@ pub fn explain(q: Question, line: &[u16]) -> Reason
 
 // Document 01's number of a reason: 0 for accepted.
 pub fn reason_number(reason: Reason) -> u8
-    ensures { result ≡ reasonNumber reason }
+    ensures { result ≡ reason_number reason }
 {
     match reason {
         Reason::Accepted => 0,
@@ -84,7 +84,7 @@ pub fn reason_number(reason: Reason) -> u8
 
 // The reason of a refusal.
 fn reason_for(q: Question, line: &[u16], why: Refusal) -> Because
-    ensures { result ≡ becauseOf q line.now why }
+    ensures { result ≡ because_of q line.now why }
 {
     match why {
         Refusal::Question => at_field(q, bad_field(q)),
@@ -103,7 +103,7 @@ fn reason_for(q: Question, line: &[u16], why: Refusal) -> Because
 
 // The first field, in row 1's order, that breaks its own clause, of a question that row 1 turns away.
 fn bad_field(q: Question) -> Field
-    ensures { result ≡ badField q }
+    ensures { result ≡ bad_field q }
 {
     if 4 < q.kind {
         return Field::Kind;
@@ -121,7 +121,7 @@ fn bad_field(q: Question) -> Field
 }
 
 fn field_in(q: Question, field: Field) -> usize
-    ensures { result ≡ fieldIn q field }
+    ensures { result ≡ field_in q field }
 {
     match field {
         Field::Kind => q.kind as usize,
@@ -133,7 +133,7 @@ fn field_in(q: Question, field: Field) -> usize
 
 // Only a chain of one device leaves a field no choice: its device is 0.
 fn field_right(q: Question, field: Field) -> Right
-    ensures { result ≡ fieldRight q field }
+    ensures { result ≡ field_right q field }
 {
     match field {
         Field::Kind => Right::Several,
@@ -144,7 +144,7 @@ fn field_right(q: Question, field: Field) -> Right
 }
 
 fn one_device(q: Question) -> Right
-    ensures { result ≡ deviceRight q }
+    ensures { result ≡ device_right q }
 {
     if q.n == 1 {
         return Right::One(0);
@@ -153,7 +153,7 @@ fn one_device(q: Question) -> Right
 }
 
 fn at_field(q: Question, field: Field) -> Because
-    ensures { result ≡ atField q field }
+    ensures { result ≡ at_field q field }
 {
     Because {
         why: Refusal::Question,
@@ -164,7 +164,7 @@ fn at_field(q: Question, field: Field) -> Because
 }
 
 fn at_line(q: Question, line: &[u16], why: Refusal) -> Because
-    ensures { result ≡ atLine q line.now why }
+    ensures { result ≡ at_line q line.now why }
 {
     let s = shape_of(q);
     Because {
@@ -176,7 +176,7 @@ fn at_line(q: Question, line: &[u16], why: Refusal) -> Because
 }
 
 fn at_word(line: &[u16], why: Refusal, i: usize, right: Right) -> Because
-    ensures { result ≡ atWord line.now why i right }
+    ensures { result ≡ at_word line.now why i right }
 {
     Because {
         why,
@@ -187,7 +187,7 @@ fn at_word(line: &[u16], why: Refusal, i: usize, right: Right) -> Because
 }
 
 fn at_byte(line: &[u16], why: Refusal, i: usize, right: Right) -> Because
-    ensures { result ≡ atByte line.now why i right }
+    ensures { result ≡ at_byte line.now why i right }
 {
     Because {
         why,
@@ -199,7 +199,7 @@ fn at_byte(line: &[u16], why: Refusal, i: usize, right: Right) -> Because
 
 // Row 5: the first word, or else the last.
 fn at_ends(line: &[u16]) -> Because
-    ensures { result ≡ atEnds line.now }
+    ensures { result ≡ at_ends line.now }
 {
     if word_or_zero(line, 0) != PREAMBLE {
         return at_word(line, Refusal::Frame, 0, Right::One(PREAMBLE as usize));
@@ -214,7 +214,7 @@ fn at_ends(line: &[u16]) -> Because
 
 // How many words stand behind the first.
 fn last_place(line: &[u16]) -> usize
-    ensures { result ≡ lastPlace line.now }
+    ensures { result ≡ last_place line.now }
 {
     if line.len() == 0 {
         return 0;
@@ -224,7 +224,7 @@ fn last_place(line: &[u16]) -> usize
 
 // Row 7: the lowest byte that is not as asked.
 fn at_echo(q: Question, line: &[u16]) -> Because
-    ensures { result ≡ atEcho q line.now }
+    ensures { result ≡ at_echo q line.now }
 {
     let i = echo_place(q, line);
     at_byte(line, Refusal::Echo, i, Right::One(asked_byte(q, i)))
@@ -232,7 +232,7 @@ fn at_echo(q: Question, line: &[u16]) -> Because
 
 // Of a line that row 7 turns away: where the first three are as asked, it is the fourth.
 fn echo_place(q: Question, line: &[u16]) -> usize
-    ensures { result ≡ echoPlace q line.now }
+    ensures { result ≡ echo_place q line.now }
 {
     if !is_as_asked(q, line, 0) {
         return 0;
@@ -247,14 +247,14 @@ fn echo_place(q: Question, line: &[u16]) -> usize
 }
 
 fn is_as_asked(q: Question, line: &[u16], i: usize) -> bool
-    ensures { result ≡ asAsked q line.now i }
+    ensures { result ≡ as_asked q line.now i }
 {
     byte_at(line, i) as usize == asked_byte(q, i)
 }
 
 // The byte that an answer repeats at a place: the first byte, then of HELLOALL 00 and of any other the register, then a write's value.
 fn asked_byte(q: Question, i: usize) -> usize
-    ensures { result ≡ askedByte q i }
+    ensures { result ≡ asked_byte q i }
 {
     let value = q.value;
     match i {
@@ -266,14 +266,14 @@ fn asked_byte(q: Question, i: usize) -> usize
 }
 
 fn first_byte(q: Question) -> usize
-    ensures { result ≡ askedByte q 0 }
+    ensures { result ≡ asked_byte q 0 }
 {
     let s = shape_of(q);
     s.first as usize
 }
 
 fn second_byte(q: Question) -> usize
-    ensures { result ≡ askedByte q 1 }
+    ensures { result ≡ asked_byte q 1 }
 {
     if q.kind == HELLOALL {
         return 0;
@@ -283,7 +283,7 @@ fn second_byte(q: Question) -> usize
 
 // Row 8: the PEC of the bytes before it as they stand.
 fn at_pec(q: Question, line: &[u16]) -> Because
-    ensures { result ≡ atPec q line.now }
+    ensures { result ≡ at_pec q line.now }
 {
     let s = shape_of(q);
     let covered = s.covered;
@@ -297,7 +297,7 @@ fn at_pec(q: Question, line: &[u16]) -> Because
 
 // The PEC of a line's bytes below a place.
 fn pec_before(line: &[u16], end: usize) -> u8
-    ensures { result ≡ pecOf (tabulated (byteAt line.now) end 0) }
+    ensures { result ≡ pec_of (tabulated (byte_at line.now) end 0) }
 {
     let mut crc: u8 = 0;
     let mut i: usize = 0;
@@ -310,7 +310,7 @@ fn pec_before(line: &[u16], end: usize) -> u8
 
 // Row 9: the seed and one for each device that acts, and after FFh comes 00h.
 fn at_alive(q: Question, line: &[u16]) -> Because
-    ensures { result ≡ atAlive q line.now }
+    ensures { result ≡ at_alive q line.now }
 {
     let s = shape_of(q);
     let due = wrapping_add_u8(q.seed, s.acting);
@@ -324,7 +324,7 @@ fn at_alive(q: Question, line: &[u16]) -> Because
 
 // Row 10: behind the values.
 fn at_check(q: Question, line: &[u16], why: Refusal) -> Because
-    ensures { result ≡ atCheck q line.now why }
+    ensures { result ≡ at_check q line.now why }
 {
     let s = shape_of(q);
     at_byte(line, why, 2 + 2 * s.values, Right::One(0))

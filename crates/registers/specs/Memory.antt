@@ -1,7 +1,7 @@
 -- The register memory of a chain, and power-on (document 01, "The twin" and row 15; data sheet 004, "Register Table").
 use Rattle.std.specs.Prelude.{◌≡◌, Bool, cond, ◌&&◌, List, ℕ, ◌*◌, ◌%◌, eqb, leb, length}
 use Rattle.ground.specs.Sweep.{tabulated}
-use Rattle.lines.specs.Write.{leftBy}
+use Rattle.lines.specs.Write.{left_by}
 use Rattle.registers.specs.declared.Powered.{Powered}
 use Rattle.registers.specs.declared.Powered.TheVariants.{On, Twin}
 
@@ -11,8 +11,8 @@ is_chain n words = leb 1 n && leb n 32 && eqb words (256 * n)
 
 -- What register r holds after power-on: nine figures of 004's table (VERSION, STATUS, MINMAXCELL, DEVCFG1, TOPCELL, OVTHCLR, OVTHSET,
 -- MSMTCH, AINUT), and 0000h where its figure is that, where it has no fixed one (ID1, ID2), and where it has no row.
-unfoldable pub powerOnFigure : ℕ → ℕ
-powerOnFigure r =
+unfoldable pub power_on_figure : ℕ → ℕ
+power_on_figure r =
     cond (eqb r 0x00) 0x8236
     (cond (eqb r 0x02) 0x8000
     (cond (eqb r 0x0A) 0x0F0F
@@ -26,22 +26,22 @@ powerOnFigure r =
 
 -- word i of the memory belongs to register i modulo 256 of its device
 abbrev pub fresh : ℕ → ℕ
-fresh i = powerOnFigure (i % 256)
+fresh i = power_on_figure (i % 256)
 
 -- the registers of n devices after power-on
-abbrev pub powerOnMemory : (n : ℕ) → List ℕ
-powerOnMemory n = tabulated fresh (256 * n) 0
+abbrev pub power_on_memory : (n : ℕ) → List ℕ
+power_on_memory n = tabulated fresh (256 * n) 0
 
 -- the answer
-unfoldable pub poweredOf : (n : ℕ) (memory : List ℕ) → Powered
-poweredOf n memory = cond (is_chain n (length memory)) On Twin
+unfoldable pub powered_of : (n : ℕ) (memory : List ℕ) → Powered
+powered_of n memory = cond (is_chain n (length memory)) On Twin
 
 -- document 01's number of an answer: 0 where the memory was filled, 15 TWIN
-abbrev pub poweredNumber : Powered → ℕ
-poweredNumber On = 0
-poweredNumber Twin = 15
+abbrev pub powered_number : Powered → ℕ
+powered_number On = 0
+powered_number Twin = 15
 
 -- what `power_on` says and leaves
 pub record PoweredOn (n : ℕ) (before after : List ℕ) (r : Powered) : Type 0 where
-  pub says : r ≡ poweredOf n before
-  pub leaves : after ≡ leftBy (poweredNumber (poweredOf n before)) (powerOnMemory n) before
+  pub says : r ≡ powered_of n before
+  pub leaves : after ≡ left_by (powered_number (powered_of n before)) (power_on_memory n) before

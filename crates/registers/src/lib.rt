@@ -1,7 +1,7 @@
 // The register memory of a chain of devices, lent by the caller: device k's register r is word 256k + r (document 01, "The twin" and row 15).
 ghost use Rattle.std.specs.Prelude.{◌≡◌, ◌%◌, length};
 ghost use Rattle.ground.specs.Sweep.{tabulated};
-ghost use Rattle.registers.specs.Memory.{is_chain, powerOnFigure, fresh, PoweredOn};
+ghost use Rattle.registers.specs.Memory.{is_chain, power_on_figure, fresh, PoweredOn};
 
 // The memory was filled, or row 15, TWIN.
 #[derive(Drop)]
@@ -25,7 +25,7 @@ pub fn is_chain(n: u8, words: usize) -> bool
 
 // What a register holds after power-on.
 fn figure_of(r: u8) -> u16
-    ensures { result ≡ powerOnFigure r }
+    ensures { result ≡ power_on_figure r }
 {
     match r {
         0x00 => 0x8236,

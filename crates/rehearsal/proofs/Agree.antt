@@ -3,8 +3,8 @@ use mathlib.Core.Path.{sym, ◌∙◌}
 use Rattle.ground.specs.Agree.{Settled, SettledIn}
 use Rattle.rehearsal.proofs.rehearse.Reads as rehearse
 
-pub rehearse-settled : Settled rehearse.Post
-rehearse-settled l given r r' left left' p q = p.says ∙ sym q.says
+pub rehearse_settled : Settled rehearse.Post
+rehearse_settled l given r r' left left' p q = p.says ∙ sym q.says
 
-pub rehearse-settled-out : SettledIn (λ l left. left.1.0.now) rehearse.Post
-rehearse-settled-out l given r r' left left' p q = p.leaves ∙ sym q.leaves
+pub rehearse_settled_out : SettledIn (λ l left. left.1.0.now) rehearse.Post
+rehearse_settled_out l given r r' left left' p q = p.leaves ∙ sym q.leaves

@@ -5,84 +5,84 @@ use mathlib.Core.List.{List, [], ◌∷◌}
 use Prim.Native.Nat.{ℕ, ◌+◌, ◌*◌, ◌≤◌, ◌<◌}
 use native.Mathlib.Omega.{arith}
 use lib.ListN.{length, drop, length-append}
-use Rattle.packing.specs.Words.{asBytes}
-use Rattle.packing.proofs.Back.{length-bytes}
+use Rattle.packing.specs.Words.{as_bytes}
+use Rattle.packing.proofs.Back.{length_bytes}
 use Rattle.jobs.specs.declared.Header.{Header}
-use Rattle.jobs.specs.Format.{Entry, headSize, fieldSize, fieldBytes, asked, entryBytes, entriesBytes}
-use Rattle.jobs.specs.Check.{sizeIn, askedIn, goodEntries, entriesIn, headerIn, goodFile}
-use Rattle.jobs.proofs.Sizes.{head-length, fields-length, field-bounds}
-use Rattle.jobs.proofs.Entries.{first_good, good-here, entries-here, no-more-entries, parts}
-use Rattle.jobs.proofs.Placed.{entry-within}
+use Rattle.jobs.specs.Format.{Entry, head_size, field_size, field_bytes, asked, entry_bytes, entries_bytes}
+use Rattle.jobs.specs.Check.{size_in, asked_in, good_entries, entries_in, header_in, good_file}
+use Rattle.jobs.proofs.Sizes.{head_length, fields_length, field_bounds}
+use Rattle.jobs.proofs.Entries.{first_good, good_here, entries_here, no_more_entries, parts}
+use Rattle.jobs.proofs.Placed.{entry_within}
 use Rattle.rehearsal.specs.declared.Places.{Places}
-use Rattle.registers.specs.Memory.{powerOnMemory}
-use Rattle.rehearsal.specs.Rehearsal.{answerWords, answeredSize, sent, with_words, rehearsed, rehearsalOf}
-use Rattle.rehearsal.specs.Answering.{entryWith}
-use Rattle.rehearsal.proofs.Sending.{few_words, answer-length}
+use Rattle.registers.specs.Memory.{power_on_memory}
+use Rattle.rehearsal.specs.Rehearsal.{answer_words, answered_size, sent, with_words, rehearsed, rehearsal_of}
+use Rattle.rehearsal.specs.Answering.{entry_with}
+use Rattle.rehearsal.proofs.Sending.{few_words, answer_length}
 
-pub answered-size : (h : Header) (memory : List ℕ) (e : Entry) → length (entryBytes h.version (with_words e (sent h.n memory (asked h e)).line)) ≡ fieldSize h.version + 2 * answerWords (asked h e)
-answered-size h memory e =
+pub answered_size_lem : (h : Header) (memory : List ℕ) (e : Entry) → length (entry_bytes h.version (with_words e (sent h.n memory (asked h e)).line)) ≡ field_size h.version + 2 * answer_words (asked h e)
+answered_size_lem h memory e =
     let words = (sent h.n memory (asked h e)).line in
-    let fields = fieldBytes h.version e.kind e.reg e.value e.mask e.device e.seed (length words) in
+    let fields = field_bytes h.version e.kind e.reg e.value e.mask e.device e.seed (length words) in
     omega (
       arith,
-      fields-length h.version e.kind e.reg e.value e.mask e.device e.seed (length words),
-      length-append fields (asBytes words),
-      length-bytes words,
-      answer-length (asked h e) h.n memory,
+      fields_length h.version e.kind e.reg e.value e.mask e.device e.seed (length words),
+      length-append fields (as_bytes words),
+      length_bytes words,
+      answer_length (asked h e) h.n memory,
     )
 
-pub rehearsed-size : (h : Header) (memory : List ℕ) (es : List Entry) → length (entriesBytes h.version (rehearsed h memory es)) ≡ answeredSize h es
-unfolding rehearsed entriesBytes answeredSize
-rehearsed-size h memory [] = refl
-rehearsed-size h memory (e ∷ es) =
+pub rehearsed_size : (h : Header) (memory : List ℕ) (es : List Entry) → length (entries_bytes h.version (rehearsed h memory es)) ≡ answered_size h es
+unfolding rehearsed entries_bytes answered_size
+rehearsed_size h memory [] = refl
+rehearsed_size h memory (e ∷ es) =
     let s = sent h.n memory (asked h e) in
-    omega (arith, length-append (entryBytes h.version (with_words e s.line)) (entriesBytes h.version (rehearsed h s.memory es)), answered-size h memory e, rehearsed-size h s.memory es)
+    omega (arith, length-append (entry_bytes h.version (with_words e s.line)) (entries_bytes h.version (rehearsed h s.memory es)), answered_size_lem h memory e, rehearsed_size h s.memory es)
 
 -- what is counted, and what is left, make up the whole
 pub record Counting (h : Header) (file : List ℕ) (p : Places) : Type 0 where
   pub within : p.at ≤ length file
-  pub good : goodEntries h (drop p.at file) ≡ true
+  pub good : good_entries h (drop p.at file) ≡ true
   pub slow : p.to ≤ 40 * p.at
-  pub sum : p.to + answeredSize h (entriesIn h.version (drop p.at file)) ≡ headSize + answeredSize h (entriesIn h.version (drop headSize file))
+  pub sum : p.to + answered_size h (entries_in h.version (drop p.at file)) ≡ head_size + answered_size h (entries_in h.version (drop head_size file))
 
-size-here : (h : Header) (file : List ℕ) (at : ℕ) → at < length file
-    → answeredSize h (entriesIn h.version (drop at file)) ≡ fieldSize h.version + 2 * answerWords (askedIn h (drop at file)) + answeredSize h (entriesIn h.version (drop (at + sizeIn h.version (drop at file)) file))
-unfolding answeredSize
-size-here h file at here = ap (answeredSize h) (entries-here h.version file at here)
+size_here : (h : Header) (file : List ℕ) (at : ℕ) → at < length file
+    → answered_size h (entries_in h.version (drop at file)) ≡ field_size h.version + 2 * answer_words (asked_in h (drop at file)) + answered_size h (entries_in h.version (drop (at + size_in h.version (drop at file)) file))
+unfolding answered_size
+size_here h file at here = ap (answered_size h) (entries_here h.version file at here)
 
-pub counting-first : (h : Header) (file : List ℕ) → goodFile file ≡ true → h ≡ headerIn file → (at : ℕ) → at ≡ headSize
+pub counting_first : (h : Header) (file : List ℕ) → good_file file ≡ true → h ≡ header_in file → (at : ℕ) → at ≡ head_size
     → Counting h file (record { at = at; to = at })
-counting-first h file ok is at start = subst (λ (k : ℕ). Counting h file (record { at = k; to = k })) (sym start) record {
+counting_first h file ok is at start = subst (λ (k : ℕ). Counting h file (record { at = k; to = k })) (sym start) record {
   within = (parts file ok).long;
-  good = ap (λ (x : Header). goodEntries x (drop headSize file)) is ∙ (parts file ok).entries;
+  good = ap (λ (x : Header). good_entries x (drop head_size file)) is ∙ (parts file ok).entries;
   slow = omega arith;
   sum = refl;
 }
 
 module _ (h : Header) (file : List ℕ) (p : Places) (here : p.at < length file) (counting : Counting h file p) where
-  pub counting-on : Counting h file (entryWith h file p)
-  counting-on = record {
-    within = entry-within h file p.at (first_good h file p.at here counting.good);
-    good = sym (good-here h file p.at here (first_good h file p.at here counting.good)) ∙ counting.good;
-    slow = omega (arith, counting.slow, few_words (askedIn h (drop p.at file)), (field-bounds h.version).0);
-    sum = omega (arith, counting.sum, size-here h file p.at here);
+  pub counting_on : Counting h file (entry_with h file p)
+  counting_on = record {
+    within = entry_within h file p.at (first_good h file p.at here counting.good);
+    good = sym (good_here h file p.at here (first_good h file p.at here counting.good)) ∙ counting.good;
+    slow = omega (arith, counting.slow, few_words (asked_in h (drop p.at file)), (field_bounds h.version).0);
+    sum = omega (arith, counting.sum, size_here h file p.at here);
   }
 
-no_size : (h : Header) → answeredSize h [] ≡ 0
-unfolding answeredSize
+no_size : (h : Header) → answered_size h [] ≡ 0
+unfolding answered_size
 no_size h = refl
 
-pub counted : (h : Header) (file : List ℕ) (p : Places) → h ≡ headerIn file → length file ≤ p.at → Counting h file p → p.to ≡ length (rehearsalOf file)
-unfolding rehearsalOf
+pub counted : (h : Header) (file : List ℕ) (p : Places) → h ≡ header_in file → length file ≤ p.at → Counting h file p → p.to ≡ length (rehearsal_of file)
+unfolding rehearsal_of
 counted h file p is over counting =
-    let h' = headerIn file in
-    let es = entriesIn h'.version (drop headSize file) in
+    let h' = header_in file in
+    let es = entries_in h'.version (drop head_size file) in
     omega (
       arith,
       counting.sum,
-      ap (answeredSize h) (no-more-entries h.version file p.at over),
+      ap (answered_size h) (no_more_entries h.version file p.at over),
       no_size h,
-      head-length h',
-      ap (λ (x : Header). answeredSize x (entriesIn x.version (drop headSize file))) is,
-      rehearsed-size h' (powerOnMemory h'.n) es,
+      head_length h',
+      ap (λ (x : Header). answered_size x (entries_in x.version (drop head_size file))) is,
+      rehearsed_size h' (power_on_memory h'.n) es,
     )

@@ -1,10 +1,10 @@
 // One entry answered: its question sent through the chain, its fields and the words that came back stored in their place.
 ghost use Rattle.std.specs.Prelude.{◌≡◌, true, ◌+◌, ◌≤◌, ◌<◌, length, drop};
 ghost use Rattle.std.proofs.lemmas.List.Edits.{sets};
-ghost use Rattle.packing.specs.Words.{asBytes};
+ghost use Rattle.packing.specs.Words.{as_bytes};
 ghost use Rattle.registers.specs.Memory.{is_chain};
-ghost use Rattle.jobs.specs.Check.{goodEntries};
-ghost use Rattle.rehearsal.specs.Answering.{SentDone, fieldsFor, MaskPut, AnsweredOne};
+ghost use Rattle.jobs.specs.Check.{good_entries};
+ghost use Rattle.rehearsal.specs.Answering.{SentDone, fields_for, MaskPut, AnsweredOne};
 
 use crate::Places;
 use commands::{Issued, write_command};
@@ -21,7 +21,7 @@ pub(crate) fn answer_entry(
     out: &mut [u8],
     places: Places,
 ) -> Places
-    requires { (places.at < length file.now) × (goodEntries header (drop places.at file.now) ≡ true) × (is_chain header.n (length memory.old) ≡ true) × (places.to + 296 ≤ 100000) }
+    requires { (places.at < length file.now) × (good_entries header (drop places.at file.now) ≡ true) × (is_chain header.n (length memory.old) ≡ true) × (places.to + 296 ≤ 100000) }
     ensures { AnsweredOne header file.now places memory.old memory.new out.old out.new result }
 {
     let next = next_entry(header, file, Cursor { at: places.at });
@@ -57,7 +57,7 @@ fn send(n: u8, q: Question, memory: &mut [u16], line: &mut [u16]) -> usize
 
 fn put_fields(out: &mut [u8], to: usize, version: u16, q: Question, mask: u16, words: usize)
     requires { (to ≤ 100000) × (words ≤ 140) }
-    ensures { out.new ≡ sets out.old to (fieldsFor version q mask words) }
+    ensures { out.new ≡ sets out.old to (fields_for version q mask words) }
 {
     let low = (q.value % 256) as u8;
     let high = (q.value / 256) as u8;
@@ -85,7 +85,7 @@ fn put_mask(out: &mut [u8], to: usize, version: u16, mask: u16) -> usize
 // The words of an answer, two bytes each.
 fn put_words(out: &mut [u8], to: usize, words: &[u16])
     requires { length words.now ≤ 140 }
-    ensures { out.new ≡ sets out.old to (asBytes words.now) }
+    ensures { out.new ≡ sets out.old to (as_bytes words.now) }
 {
     let mut bytes = blank_bytes();
     pack(words, &mut bytes);

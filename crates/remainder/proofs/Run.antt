@@ -7,10 +7,10 @@ use lib.ListN.{length, get_or, drop, drop_of_length-le}
 use lib.Seq.{drop-cons}
 use Rattle.remainder.specs.Register.{run}
 
-pub run-next : (step : ℕ → ℕ → ℕ) (c : ℕ) (l : List ℕ) (i : ℕ) → i < length l
+pub run_next : (step : ℕ → ℕ → ℕ) (c : ℕ) (l : List ℕ) (i : ℕ) → i < length l
     → run step c (drop i l) ≡ run step (step c (get_or l i 0)) (drop (i + 1) l)
 unfolding run
-run-next step c l i h = rw (add-one, drop-cons l i 0 h)
+run_next step c l i h = rw (add-one, drop-cons l i 0 h)
 
 pub run_end : (step : ℕ → ℕ → ℕ) (c : ℕ) (l : List ℕ) (i : ℕ) → length l ≤ i → run step c (drop i l) ≡ c
 unfolding run

@@ -32,15 +32,15 @@ xor_assoc =
     ∙ sym (xor_step n (bit_xor b c)))
 
 -- what was turned over twice is as it was
-pub xor-back : (a b : ℕ) → bit_xor a (bit_xor a b) ≡ b
-xor-back a b = sym (xor_assoc a a b) ∙ ap (λ (x : ℕ). bit_xor x b) (xor_self a)
+pub xor_back : (a b : ℕ) → bit_xor a (bit_xor a b) ≡ b
+xor_back a b = sym (xor_assoc a a b) ∙ ap (λ (x : ℕ). bit_xor x b) (xor_self a)
 
-pub xor-zero-same : (a b : ℕ) → bit_xor a b ≡ 0 → a ≡ b
-xor-zero-same a b e = sym (xor_zero_r a) ∙ ap (bit_xor a) (sym e) ∙ xor-back a b
+pub xor_zero_same : (a b : ℕ) → bit_xor a b ≡ 0 → a ≡ b
+xor_zero_same a b e = sym (xor_zero_r a) ∙ ap (bit_xor a) (sym e) ∙ xor_back a b
 
-pub xor-left-comm : (a b c : ℕ) → bit_xor a (bit_xor b c) ≡ bit_xor b (bit_xor a c)
-xor-left-comm a b c = sym (xor_assoc a b c) ∙ ap (λ (x : ℕ). bit_xor x c) (xor_comm a b) ∙ xor_assoc b a c
+pub xor_left_comm : (a b c : ℕ) → bit_xor a (bit_xor b c) ≡ bit_xor b (bit_xor a c)
+xor_left_comm a b c = sym (xor_assoc a b c) ∙ ap (λ (x : ℕ). bit_xor x c) (xor_comm a b) ∙ xor_assoc b a c
 
 -- the two sums of two sums
-pub xor-swap : (a b c d : ℕ) → bit_xor (bit_xor a b) (bit_xor c d) ≡ bit_xor (bit_xor a c) (bit_xor b d)
-xor-swap a b c d = xor_assoc a b (bit_xor c d) ∙ ap (bit_xor a) (xor-left-comm b c d) ∙ sym (xor_assoc a c (bit_xor b d))
+pub xor_swap : (a b c d : ℕ) → bit_xor (bit_xor a b) (bit_xor c d) ≡ bit_xor (bit_xor a c) (bit_xor b d)
+xor_swap a b c d = xor_assoc a b (bit_xor c d) ∙ ap (bit_xor a) (xor_left_comm b c d) ∙ sym (xor_assoc a c (bit_xor b d))

@@ -13,12 +13,12 @@ unfoldable pub shift : (rest out : ℕ → ℕ) → (constant : ℕ) → ℕ →
 shift rest out constant c = bit_xor (rest c) (out c * constant)
 
 -- lowest bit first: the register moves down
-abbrev pub lowestFirst : (constant : ℕ) → ℕ → ℕ
-lowestFirst = shift (λ c. c / 2) (λ c. c % 2)
+abbrev pub lowest_first : (constant : ℕ) → ℕ → ℕ
+lowest_first = shift (λ c. c / 2) (λ c. c % 2)
 
 -- highest bit first, in a register of suc k bits: the register moves up
-abbrev pub highestFirst : (k constant : ℕ) → ℕ → ℕ
-highestFirst k = shift (λ c. c * 2 % 2 ^ suc k) (λ c. c / 2 ^ k % 2)
+abbrev pub highest_first : (k constant : ℕ) → ℕ → ℕ
+highest_first k = shift (λ c. c * 2 % 2 ^ suc k) (λ c. c / 2 ^ k % 2)
 
 -- a list taken in, one number after the other, from a start state
 unfoldable pub run : (ℕ → ℕ → ℕ) → ℕ → List ℕ → ℕ

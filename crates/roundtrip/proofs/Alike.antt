@@ -9,12 +9,12 @@ use lib.Dec.{eqb}
 use lib.ListN.{length, drop}
 use borrow.Author.Tests.{eqb-true}
 use Rattle.ground.proofs.Test.{below_or_not}
-use Rattle.pec.specs.Pec.{pecOf}
+use Rattle.pec.specs.Pec.{pec_of}
 use Rattle.questions.specs.Shape.{shape_of}
-use Rattle.questions.specs.Bytes.{lowHigh, aliveByte, sealed, fillPairs, writeCovered}
+use Rattle.questions.specs.Bytes.{low_high, alive_byte, sealed, fill_pairs, write_covered}
 use Rattle.questions.specs.declared.question.Question.{Question}
-use Rattle.underway.specs.OnTheWay.{onTheWay}
-use Rattle.underway.proofs.Way.{readOnWay, way-write, way-read}
+use Rattle.underway.specs.OnTheWay.{on_the_way}
+use Rattle.underway.proofs.Way.{read_on_way, way_write, way_read}
 
 -- q' is q as it is heard when `added` has been added to its alive byte
 pub record Alike (q q' : Question) (added : ℕ) : Type 0 where
@@ -27,36 +27,36 @@ pub record Alike (q q' : Question) (added : ℕ) : Type 0 where
   pub seed : q.alive ≡ 1 → q'.seed ≡ (q.seed + added) % 256
 
 module _ (q q' : Question) (added : ℕ) (a : Alike q q' added) where
-  alive-alike : (more : ℕ) → aliveByte q' more ≡ aliveByte q (added + more)
-  alive-alike more =
-      ap (λ (x : ℕ). cond (eqb x 1) ((q'.seed + more) % 256 ∷ []) []) a.alive ∙ by-test (eqb q.alive 1) refl
+  alive_alike : (more : ℕ) → alive_byte q' more ≡ alive_byte q (added + more)
+  alive_alike more =
+      ap (λ (x : ℕ). cond (eqb x 1) ((q'.seed + more) % 256 ∷ []) []) a.alive ∙ by_test (eqb q.alive 1) refl
     where
       wraps : (s : ℕ) → s ≡ (q.seed + added) % 256 → (s + more) % 256 ≡ (q.seed + (added + more)) % 256
       wraps s e = omega (arith, e)
 
-      by-test : (t : Bool) → eqb q.alive 1 ≡ t
+      by_test : (t : Bool) → eqb q.alive 1 ≡ t
           → cond (eqb q.alive 1) ((q'.seed + more) % 256 ∷ []) [] ≡ cond (eqb q.alive 1) ((q.seed + (added + more)) % 256 ∷ []) []
-      by-test true e =
+      by_test true e =
           ap (λ (x : ℕ). cond (eqb q.alive 1) (x ∷ []) []) (wraps q'.seed (a.seed (eqb-true q.alive 1 e)))
-      by-test false e =
+      by_test false e =
           ap (λ (t : Bool). cond t ((q'.seed + more) % 256 ∷ []) []) e ∙ sym (ap (λ (t : Bool). cond t ((q.seed + (added + more)) % 256 ∷ []) []) e)
 
-  sealed-alike : (more : ℕ) (covered covered' : List ℕ) → covered' ≡ covered → sealed q' more covered' ≡ sealed q (added + more) covered
+  sealed_alike : (more : ℕ) (covered covered' : List ℕ) → covered' ≡ covered → sealed q' more covered' ≡ sealed q (added + more) covered
   unfolding sealed
-  sealed-alike more covered covered' same =
-      ap₂ (λ (x y : List ℕ). x ++ (pecOf x ∷ y)) same (alive-alike more)
+  sealed_alike more covered covered' same =
+      ap₂ (λ (x y : List ℕ). x ++ (pec_of x ∷ y)) same (alive_alike more)
 
-  pub way-alike : 1 ≤ q.kind → (count more : ℕ) (wire : List ℕ) → onTheWay q' count more wire ≡ onTheWay q count (added + more) wire
-  way-alike some count more wire =
+  pub way_alike : 1 ≤ q.kind → (count more : ℕ) (wire : List ℕ) → on_the_way q' count more wire ≡ on_the_way q count (added + more) wire
+  way_alike some count more wire =
       ⊎_elim
       (λ (low : q.kind < 3).
-      let write : writeCovered q' ≡ writeCovered q =
-      ap₂ (λ (x y : ℕ). x ∷ y ∷ lowHigh q'.value) a.first a.reg ∙ ap (λ (v : ℕ). (shape_of q).first ∷ q.reg ∷ lowHigh v) (a.value (omega arith)) in
-      way-write q' count more wire (omega (arith, a.kind)) (omega (arith, a.kind)) ∙ sealed-alike more (writeCovered q) (writeCovered q') write
-      ∙ sym (way-write q count (added + more) wire some (omega arith)))
+      let write : write_covered q' ≡ write_covered q =
+      ap₂ (λ (x y : ℕ). x ∷ y ∷ low_high q'.value) a.first a.reg ∙ ap (λ (v : ℕ). (shape_of q).first ∷ q.reg ∷ low_high v) (a.value (omega arith)) in
+      way_write q' count more wire (omega (arith, a.kind)) (omega (arith, a.kind)) ∙ sealed_alike more (write_covered q) (write_covered q') write
+      ∙ sym (way_write q count (added + more) wire some (omega arith)))
       (λ (reads : 3 ≤ q.kind).
-      let covered : readOnWay q' wire ≡ readOnWay q wire = ap₂ (λ (x y : ℕ). x ∷ y ∷ (wire ++ (0 ∷ []))) a.first a.reg in
-      way-read q' count more wire (omega (arith, a.kind))
-      ∙ ap₂ (λ (x : List ℕ) (v : ℕ). x ++ drop (length wire) (fillPairs v)) (sealed-alike more (readOnWay q wire) (readOnWay q' wire) covered) a.values
-      ∙ sym (way-read q count (added + more) wire reads))
+      let covered : read_on_way q' wire ≡ read_on_way q wire = ap₂ (λ (x y : ℕ). x ∷ y ∷ (wire ++ (0 ∷ []))) a.first a.reg in
+      way_read q' count more wire (omega (arith, a.kind))
+      ∙ ap₂ (λ (x : List ℕ) (v : ℕ). x ++ drop (length wire) (fill_pairs v)) (sealed_alike more (read_on_way q wire) (read_on_way q' wire) covered) a.values
+      ∙ sym (way_read q count (added + more) wire reads))
       (below_or_not q.kind 3)

@@ -7,39 +7,39 @@ use native.Mathlib.Omega.{arith}
 use lib.Dec.{ltb}
 use borrow.Author.Tests.{le-ltb}
 use Rattle.lines.specs.Line.{line_of}
-use Rattle.packing.specs.Words.{asBytes}
-use Rattle.questions.specs.Bytes.{onWire, commandBytes}
-use Rattle.commands.specs.Command.{commandLine}
+use Rattle.packing.specs.Words.{as_bytes}
+use Rattle.questions.specs.Bytes.{on_wire, command_bytes}
+use Rattle.commands.specs.Command.{command_line}
 use Rattle.questions.specs.declared.question.Question.{Question}
-use Rattle.questions.proofs.ByKind.{each-kind}
-use Rattle.underway.specs.OnTheWay.{onTheWay}
-use Rattle.roundtrip.specs.Between.{held, one_of, actedAt, acted, put_at, put_in, lineBetween}
+use Rattle.questions.proofs.ByKind.{each_kind}
+use Rattle.underway.specs.OnTheWay.{on_the_way}
+use Rattle.roundtrip.specs.Between.{held, one_of, acted_at, acted, put_at, put_in, line_between}
 
-abbrev pub oneIf : Bool → ℕ
-oneIf t = cond t 1 0
+abbrev pub one_if : Bool → ℕ
+one_if t = cond t 1 0
 
 nobody : (d : ℕ) → ltb d 0 ≡ false
 nobody d = le-ltb d 0 (omega arith)
 
 -- nobody has acted, and nothing is put in
-none-acted : (q : Question) → q.kind ≤ 4 → acted q 0 ≡ 0
+none_acted : (q : Question) → q.kind ≤ 4 → acted q 0 ≡ 0
 unfolding acted
-none-acted q kind =
-    let none : one_of q.device 0 ≡ 0 = ap oneIf (nobody q.device) in
-    each-kind (λ (x : ℕ). actedAt x q 0 ≡ 0) refl refl none refl none q.kind kind
+none_acted q kind =
+    let none : one_of q.device 0 ≡ 0 = ap one_if (nobody q.device) in
+    each_kind (λ (x : ℕ). acted_at x q 0 ≡ 0) refl refl none refl none q.kind kind
 
-none-put : (q : Question) (memory : List ℕ) → q.kind ≤ 4 → put_in q 0 memory ≡ []
+none_put : (q : Question) (memory : List ℕ) → q.kind ≤ 4 → put_in q 0 memory ≡ []
 unfolding put_in
-none-put q memory kind =
+none_put q memory kind =
     let one = held memory q.device q.reg in
-    each-kind (λ (x : ℕ). put_at x q 0 memory ≡ []) refl refl refl refl
+    each_kind (λ (x : ℕ). put_at x q 0 memory ≡ []) refl refl refl refl
     (ap (λ (t : Bool). cond t (one ∷ []) []) (nobody q.device)) q.kind kind
 
-unsent : (q : Question) → commandBytes q ≡ onTheWay q 0 0 (onWire [])
-unfolding commandBytes onTheWay onWire asBytes
+unsent : (q : Question) → command_bytes q ≡ on_the_way q 0 0 (on_wire [])
+unfolding command_bytes on_the_way on_wire as_bytes
 unsent q = refl
 
 -- before any device has had it, the line is the command
-pub command-first : (q : Question) (memory : List ℕ) → q.kind ≤ 4 → commandLine q ≡ lineBetween q 0 memory
-command-first q memory kind =
-    ap line_of (unsent q ∙ sym (ap₂ (λ (x : ℕ) (l : List ℕ). onTheWay q 0 x (onWire l)) (none-acted q kind) (none-put q memory kind)))
+pub command_first : (q : Question) (memory : List ℕ) → q.kind ≤ 4 → command_line q ≡ line_between q 0 memory
+command_first q memory kind =
+    ap line_of (unsent q ∙ sym (ap₂ (λ (x : ℕ) (l : List ℕ). on_the_way q 0 x (on_wire l)) (none_acted q kind) (none_put q memory kind)))

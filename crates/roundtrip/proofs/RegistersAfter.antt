@@ -12,44 +12,44 @@ use lib.ListN.{length, get_or, drop, set, length-take, length-drop, get_or-eq_de
 use lib.Seq.{get_or-set_same, get_or-set_other, get_or-take, get_or-drop}
 use borrow.Author.Tests.{eqb-true, eq-eqb, ne_eqb, lt-ltb}
 use Rattle.ground.proofs.Test.{below_or_not}
-use Rattle.questions.specs.Question.{byForm, goodQuestion, coversAt, covers}
-use Rattle.commands.specs.Command.{commandLine}
+use Rattle.questions.specs.Question.{by_form, good_question, covers_at, covers}
+use Rattle.commands.specs.Command.{command_line}
 use Rattle.questions.specs.declared.question.Question.{Question}
-use Rattle.questions.proofs.ByKind.{of-hello, of-write, of-read, each-kind}
-use Rattle.questions.proofs.Good.{good-kind}
+use Rattle.questions.proofs.ByKind.{of_hello, of_write, of_read, each_kind}
+use Rattle.questions.proofs.Good.{good_kind}
 use Rattle.acceptance.specs.Answer.{Registers, Sendable}
-use Rattle.passage.specs.Pass.{store_of, changeAsked, changed}
+use Rattle.passage.specs.Pass.{store_of, change_asked, changed}
 use Rattle.passage.specs.declared.pass.Change.{Change}
 use Rattle.passage.specs.declared.pass.Change.TheVariants.{Nothing, Store}
-use Rattle.twin.specs.Step.{registersOf, chainWith, hops}
-use Rattle.roundtrip.specs.Between.{held, writeReaches, reaches, ChangedBy, For}
-use Rattle.twin.proofs.Stepping.{hops-memory}
-use Rattle.roundtrip.proofs.Values.{held-lt}
-use Rattle.roundtrip.proofs.PutInSoFar.{covers_at}
-use Rattle.roundtrip.proofs.RoundTrip.{registers-after}
+use Rattle.twin.specs.Step.{registers_of, chain_with, hops}
+use Rattle.roundtrip.specs.Between.{held, write_reaches, reaches, ChangedBy, For}
+use Rattle.twin.proofs.Stepping.{hops_memory}
+use Rattle.roundtrip.proofs.Values.{held_lt}
+use Rattle.roundtrip.proofs.PutInSoFar.{covers_at_lem}
+use Rattle.roundtrip.proofs.RoundTrip.{registers_after}
 
 -- a register file of 256
-pub file-length : (memory : List ℕ) (n k : ℕ) → length memory ≡ 256 * n → k < n → length (registersOf memory k) ≡ 256
-file-length memory n k size h = omega (arith, length-take 256 (drop (256 * k) memory), length-drop (256 * k) memory)
+pub file_length : (memory : List ℕ) (n k : ℕ) → length memory ≡ 256 * n → k < n → length (registers_of memory k) ≡ 256
+file_length memory n k size h = omega (arith, length-take 256 (drop (256 * k) memory), length-drop (256 * k) memory)
 
 -- what a question asks of the registers, by form
-write-asks : (q : Question) → 1 ≤ q.kind → q.kind ≤ 2 → changeAsked q ≡ store_of q
-write-asks q some low =
+write_asks : (q : Question) → 1 ≤ q.kind → q.kind ≤ 2 → change_asked q ≡ store_of q
+write_asks q some low =
     ⊎_elim (λ (one : q.kind < 2). let is : q.kind ≡ 1 = omega arith in ap (λ (k : ℕ). cond (eqb k 1) (store_of q) (cond (eqb k 2) (store_of q) Nothing)) is)
     (λ (two : 2 ≤ q.kind). let is : q.kind ≡ 2 = omega arith in ap (λ (k : ℕ). cond (eqb k 1) (store_of q) (cond (eqb k 2) (store_of q) Nothing)) is)
     (below_or_not q.kind 2)
 
-others-ask-nothing : (q : Question) → (q.kind ≡ 1 → ⊥) → (q.kind ≡ 2 → ⊥) → changeAsked q ≡ Nothing
-others-ask-nothing q not-one not-two =
-    ap₂ (λ (t u : Bool). cond t (store_of q) (cond u (store_of q) Nothing)) (ne_eqb q.kind 1 not-one) (ne_eqb q.kind 2 not-two)
+others_ask_nothing : (q : Question) → (q.kind ≡ 1 → ⊥) → (q.kind ≡ 2 → ⊥) → change_asked q ≡ Nothing
+others_ask_nothing q not_one not_two =
+    ap₂ (λ (t u : Bool). cond t (store_of q) (cond u (store_of q) Nothing)) (ne_eqb q.kind 1 not_one) (ne_eqb q.kind 2 not_two)
 
 module _ (q : Question) (registers : List ℕ) (size : length registers ≡ 256) (small : q.reg < 256) (r : ℕ) where
   abbrev pub after : Change → ℕ
   after c = get_or (changed registers c) r 0
 
-  other-kept : (z : Bool) → eqb q.reg 0x00 ≡ z → (r ≡ q.reg → ⊥) → after (store_of q) ≡ get_or registers r 0
-  other-kept true e other = ap (λ (t : Bool). after (cond t Nothing (Store q.reg q.value))) e
-  other-kept false e other =
+  other_kept : (z : Bool) → eqb q.reg 0x00 ≡ z → (r ≡ q.reg → ⊥) → after (store_of q) ≡ get_or registers r 0
+  other_kept true e other = ap (λ (t : Bool). after (cond t Nothing (Store q.reg q.value))) e
+  other_kept false e other =
       ap (λ (t : Bool). after (cond t Nothing (Store q.reg q.value))) e ∙ get_or-set_other registers q.reg r q.value 0 other
 
   -- a write that is put to the device
@@ -69,31 +69,31 @@ module _ (q : Question) (registers : List ℕ) (size : length registers ≡ 256)
           ∙ ap (λ (x : ℕ). get_or (set registers q.reg q.value) x 0) is ∙ get_or-set_same registers q.reg q.value 0 (omega arith)
           ∙ sym (ap₂ (λ (t u : Bool). cond (t && not u) q.value (get_or registers r 0)) same some)
       by_register z zero-reg false other =
-          other-kept z zero-reg (λ same. false≢true (sym other ∙ eq-eqb r q.reg same))
+          other_kept z zero-reg (λ same. false≢true (sym other ∙ eq-eqb r q.reg same))
           ∙ sym (ap (λ (t : Bool). cond (t && not (eqb r 0x00)) q.value (get_or registers r 0)) other)
 
   -- any question, to a device that it covers or not
-  by-change : (k : ℕ) → after (cond (covers q k) (changeAsked q) Nothing) ≡ cond (reaches q k r) q.value (get_or registers r 0)
+  by_change : (k : ℕ) → after (cond (covers q k) (change_asked q) Nothing) ≡ cond (reaches q k r) q.value (get_or registers r 0)
   unfolding reaches
-  by-change k =
+  by_change k =
       ⊎_elim
       (λ (low : q.kind < 3). ⊎_elim
-      (λ (e : q.kind ≡ 0). nothing (others-ask-nothing q (λ x. absurd (omega arith)) (λ x. absurd (omega arith))) (of-hello q.kind _ _ _ e))
+      (λ (e : q.kind ≡ 0). nothing (others_ask_nothing q (λ x. absurd (omega arith)) (λ x. absurd (omega arith))) (of_hello q.kind _ _ _ e))
       (λ (some : 1 ≤ q.kind).
-      ap (λ (c : Change). after (cond (covers q k) c Nothing)) (write-asks q some (omega arith)) ∙ either (covers q k)
-      ∙ sym (ap (λ (t : Bool). cond t q.value (get_or registers r 0)) (of-write q.kind false (writeReaches q k r) false some (omega arith))))
+      ap (λ (c : Change). after (cond (covers q k) c Nothing)) (write_asks q some (omega arith)) ∙ either (covers q k)
+      ∙ sym (ap (λ (t : Bool). cond t q.value (get_or registers r 0)) (of_write q.kind false (write_reaches q k r) false some (omega arith))))
       (eq-zero-or-pos q.kind))
-      (λ (reads : 3 ≤ q.kind). nothing (others-ask-nothing q (λ x. absurd (omega arith)) (λ x. absurd (omega arith))) (of-read q.kind _ _ _ reads))
+      (λ (reads : 3 ≤ q.kind). nothing (others_ask_nothing q (λ x. absurd (omega arith)) (λ x. absurd (omega arith))) (of_read q.kind _ _ _ reads))
       (below_or_not q.kind 3)
     where
-      same-either : (t : Bool) → after (cond t Nothing Nothing) ≡ get_or registers r 0
-      same-either true = refl
-      same-either false = refl
+      same_either : (t : Bool) → after (cond t Nothing Nothing) ≡ get_or registers r 0
+      same_either true = refl
+      same_either false = refl
 
-      nothing : changeAsked q ≡ Nothing → byForm q.kind false (writeReaches q k r) false ≡ false
-          → after (cond (covers q k) (changeAsked q) Nothing) ≡ cond (byForm q.kind false (writeReaches q k r) false) q.value (get_or registers r 0)
+      nothing : change_asked q ≡ Nothing → by_form q.kind false (write_reaches q k r) false ≡ false
+          → after (cond (covers q k) (change_asked q) Nothing) ≡ cond (by_form q.kind false (write_reaches q k r) false) q.value (get_or registers r 0)
       nothing asks none =
-          ap (λ (c : Change). after (cond (covers q k) c Nothing)) asks ∙ same-either (covers q k)
+          ap (λ (c : Change). after (cond (covers q k) c Nothing)) asks ∙ same_either (covers q k)
           ∙ sym (ap (λ (t : Bool). cond t q.value (get_or registers r 0)) none)
 
       either : (t : Bool) → after (cond t (store_of q) Nothing) ≡ cond (t && eqb r q.reg && not (eqb r 0x00)) q.value (get_or registers r 0)
@@ -101,45 +101,45 @@ module _ (q : Question) (registers : List ℕ) (size : length registers ≡ 256)
       either false = refl
 
   -- and one that the device acts on
-  pub by-rule : (n k : ℕ) → For q n k → after (changeAsked q) ≡ cond (reaches q k r) q.value (get_or registers r 0)
-  by-rule n k put =
-      ap after (each-kind Asked hello (λ e. covered (all 1 e (omega arith) refl)) (λ e. covered (one 2 e (inl e) refl)) (λ e. covered (all 3 e (omega arith) refl))
-      (λ e. covered (one 4 e (inr e) refl)) q.kind (good-kind q put.good) refl)
-      ∙ by-change k
+  pub by_rule : (n k : ℕ) → For q n k → after (change_asked q) ≡ cond (reaches q k r) q.value (get_or registers r 0)
+  by_rule n k put =
+      ap after (each_kind Asked hello (λ e. covered (all 1 e (omega arith) refl)) (λ e. covered (one 2 e (inl e) refl)) (λ e. covered (all 3 e (omega arith) refl))
+      (λ e. covered (one 4 e (inr e) refl)) q.kind (good_kind q put.good) refl)
+      ∙ by_change k
     where
       Asked : ℕ → Type 0
-      Asked x = q.kind ≡ x → changeAsked q ≡ cond (covers q k) (changeAsked q) Nothing
+      Asked x = q.kind ≡ x → change_asked q ≡ cond (covers q k) (change_asked q) Nothing
 
-      covered : covers q k ≡ true → changeAsked q ≡ cond (covers q k) (changeAsked q) Nothing
-      covered e = sym (ap (λ (t : Bool). cond t (changeAsked q) Nothing) e)
+      covered : covers q k ≡ true → change_asked q ≡ cond (covers q k) (change_asked q) Nothing
+      covered e = sym (ap (λ (t : Bool). cond t (change_asked q) Nothing) e)
 
-      all : (x : ℕ) → q.kind ≡ x → 1 ≤ x → coversAt x q k ≡ ltb k q.n → covers q k ≡ true
-      all x e some is = covers_at q k x e ∙ is ∙ lt-ltb k q.n (omega (arith, put.chain (omega (arith, e)), put.within))
+      all : (x : ℕ) → q.kind ≡ x → 1 ≤ x → covers_at x q k ≡ ltb k q.n → covers q k ≡ true
+      all x e some is = covers_at_lem q k x e ∙ is ∙ lt-ltb k q.n (omega (arith, put.chain (omega (arith, e)), put.within))
 
-      one : (x : ℕ) → q.kind ≡ x → (q.kind ≡ 2) ⊎ (q.kind ≡ 4) → coversAt x q k ≡ eqb k q.device → covers q k ≡ true
-      one x e named is = covers_at q k x e ∙ is ∙ eq-eqb k q.device (sym (put.to named))
+      one : (x : ℕ) → q.kind ≡ x → (q.kind ≡ 2) ⊎ (q.kind ≡ 4) → covers_at x q k ≡ eqb k q.device → covers q k ≡ true
+      one x e named is = covers_at_lem q k x e ∙ is ∙ eq-eqb k q.device (sym (put.to named))
 
       either : (t : Bool) → Nothing ≡ cond t Nothing Nothing
       either true = refl
       either false = refl
 
-      hello : q.kind ≡ 0 → changeAsked q ≡ cond (covers q k) (changeAsked q) Nothing
+      hello : q.kind ≡ 0 → change_asked q ≡ cond (covers q k) (change_asked q) Nothing
       hello e =
-          let none = others-ask-nothing q (λ x. absurd (omega arith)) (λ x. absurd (omega arith)) in
+          let none = others_ask_nothing q (λ x. absurd (omega arith)) (λ x. absurd (omega arith)) in
           none ∙ either (covers q k) ∙ sym (ap (λ (c : Change). cond (covers q k) c Nothing) none)
 
-module _ (q : Question) (good : goodQuestion q ≡ true) (sends : Sendable q) (n : ℕ) (chain : 1 ≤ q.kind → q.n ≡ n) (least : 1 ≤ n) (most : n ≤ 32)
+module _ (q : Question) (good : good_question q ≡ true) (sends : Sendable q) (n : ℕ) (chain : 1 ≤ q.kind → q.n ≡ n) (least : 1 ≤ n) (most : n ≤ 32)
     (memory : List ℕ) (words : Registers memory) (size : length memory ≡ 256 * n) where
-  pub held_after : ChangedBy q n memory (hops n n (chainWith memory (commandLine q))).memory
+  pub held_after : ChangedBy q n memory (hops n n (chain_with memory (command_line q))).memory
   held_after k r h =
-      ap (λ (l : List ℕ). get_or l r 0) (registers-after q good sends n chain least most memory words k h)
-      ∙ by-change q (registersOf memory k) (file-length memory n k size h) sends.reg r k
+      ap (λ (l : List ℕ). get_or l r 0) (registers_after q good sends n chain least most memory words k h)
+      ∙ by_change q (registers_of memory k) (file_length memory n k size h) sends.reg r k
 
   -- every word is still a register's value
-  pub still-registers : Registers (hops n n (chainWith memory (commandLine q))).memory
-  still-registers i =
-      let after = (hops n n (chainWith memory (commandLine q))).memory in
-      let wide : length after ≡ 256 * n = hops-memory n 0 n (chainWith memory (commandLine q)) ∙ size in
+  pub still_registers : Registers (hops n n (chain_with memory (command_line q))).memory
+  still_registers i =
+      let after = (hops n n (chain_with memory (command_line q))).memory in
+      let wide : length after ≡ 256 * n = hops_memory n 0 n (chain_with memory (command_line q)) ∙ size in
       let k = i / 256 in
       let r = i % 256 in
       let there : 256 * k + r ≡ i = omega arith in
@@ -147,7 +147,7 @@ module _ (q : Question) (good : goodQuestion q ≡ true) (sends : Sendable q) (n
       (λ (inside : i < 256 * n).
       let same : get_or after i 0 ≡ held after k r =
       sym (get_or-take 256 (drop (256 * k) after) r 0 (omega arith) ∙ get_or-drop (256 * k) after r 0 ∙ ap (λ (j : ℕ). get_or after j 0) there) in
-      subst (λ (v : ℕ). v < 65536) (sym (same ∙ held_after k r (omega arith))) (either (reaches q k r) (held memory k r) (held-lt memory words k r (omega arith))))
+      subst (λ (v : ℕ). v < 65536) (sym (same ∙ held_after k r (omega arith))) (either (reaches q k r) (held memory k r) (held_lt memory words k r (omega arith))))
       (λ (beyond : 256 * n ≤ i). subst (λ (v : ℕ). v < 65536) (sym (get_or-eq_default after 0 (omega (arith, wide)))) (omega arith))
       (below_or_not i (256 * n))
     where

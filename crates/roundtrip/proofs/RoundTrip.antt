@@ -6,41 +6,41 @@ use mathlib.Core.List.{List}
 use Prim.Native.Nat.{ℕ, zero, suc, ◌≤◌, ◌<◌}
 use native.Mathlib.Nat.{le_refl}
 use native.Mathlib.Omega.{arith}
-use Rattle.questions.specs.Question.{goodQuestion}
-use Rattle.commands.specs.Command.{commandLine}
+use Rattle.questions.specs.Question.{good_question}
+use Rattle.commands.specs.Command.{command_line}
 use Rattle.questions.specs.declared.question.Question.{Question}
-use Rattle.questions.proofs.Good.{good-kind}
+use Rattle.questions.proofs.Good.{good_kind}
 use Rattle.acceptance.specs.Answer.{Registers, Sendable, AnswerTo}
-use Rattle.passage.specs.Acting.{handedOn}
-use Rattle.passage.specs.Pass.{changeOf, changed}
-use Rattle.twin.specs.Step.{registersOf, chainWith, hopsFrom, hops}
-use Rattle.twin.proofs.Registers.{hop-own}
-use Rattle.twin.proofs.Span.{next-of-chain}
-use Rattle.roundtrip.specs.Between.{lineBetween, broughtBack}
+use Rattle.passage.specs.Acting.{handed_on}
+use Rattle.passage.specs.Pass.{change_of, changed}
+use Rattle.twin.specs.Step.{registers_of, chain_with, hops_from, hops}
+use Rattle.twin.proofs.Registers.{hop_own}
+use Rattle.twin.proofs.Span.{next_of_chain}
+use Rattle.roundtrip.specs.Between.{line_between, brought_back}
 use Rattle.roundtrip.proofs.NotStepped.{untouched, settled}
-use Rattle.roundtrip.proofs.NextLine.{changeFor}
+use Rattle.roundtrip.proofs.NextLine.{change_for}
 use Rattle.roundtrip.proofs.LineBetween.{next}
-use Rattle.roundtrip.proofs.CommandFirst.{command-first}
-use Rattle.roundtrip.proofs.AnswerLast.{answer-last, fitting}
+use Rattle.roundtrip.proofs.CommandFirst.{command_first}
+use Rattle.roundtrip.proofs.AnswerLast.{answer_last, fitting}
 
-module _ (q : Question) (good : goodQuestion q ≡ true) (sends : Sendable q) (n : ℕ) (chain : 1 ≤ q.kind → q.n ≡ n) (least : 1 ≤ n) (most : n ≤ 32)
+module _ (q : Question) (good : good_question q ≡ true) (sends : Sendable q) (n : ℕ) (chain : 1 ≤ q.kind → q.n ≡ n) (least : 1 ≤ n) (most : n ≤ 32)
     (memory : List ℕ) (words : Registers memory) where
   -- THE LINE BETWEEN: after m devices, the command as m devices leave it.
-  pub line-between : (m : ℕ) → m ≤ n → (hops n m (chainWith memory (commandLine q))).line ≡ lineBetween q m memory
-  unfolding hopsFrom
-  line-between zero h = command-first q memory (good-kind q good)
-  line-between (suc m) h =
-      let s = chainWith memory (commandLine q) in
-      ap (λ x. x.line) (next-of-chain n s m) ∙ ap₂ (handedOn n m) (line-between m (omega arith)) (untouched n s m m (le_refl m))
+  pub line_between_lem : (m : ℕ) → m ≤ n → (hops n m (chain_with memory (command_line q))).line ≡ line_between q m memory
+  unfolding hops_from
+  line_between_lem zero h = command_first q memory (good_kind q good)
+  line_between_lem (suc m) h =
+      let s = chain_with memory (command_line q) in
+      ap (λ x. x.line) (next_of_chain n s m) ∙ ap₂ (handed_on n m) (line_between_lem m (omega arith)) (untouched n s m m (le_refl m))
       ∙ (next q sends n memory words good chain most m h).hands
 
   -- THE ROUND TRIP: the command through all n devices is the right answer for the registers as they stand.
-  pub right_answer : AnswerTo q (broughtBack q n memory) (hops n n (chainWith memory (commandLine q))).line
-  right_answer = record { fitting = fitting q good sends n chain least most memory words; written = line-between n (le_refl n) ∙ answer-last q good sends n chain least most memory words }
+  pub right_answer : AnswerTo q (brought_back q n memory) (hops n n (chain_with memory (command_line q))).line
+  right_answer = record { fitting = fitting q good sends n chain least most memory words; written = line_between_lem n (le_refl n) ∙ answer_last q good sends n chain least most memory words }
 
   -- and each device's registers are as the command asks of it
-  pub registers-after : (k : ℕ) → k < n → registersOf (hops n n (chainWith memory (commandLine q))).memory k ≡ changed (registersOf memory k) (changeFor q sends n memory words k)
-  registers-after k h =
-      let s = chainWith memory (commandLine q) in
-      settled n s n k h ∙ ap (λ x. registersOf x.memory k) (next-of-chain n s k) ∙ hop-own n k (hops n k s)
-      ∙ ap₂ changed (untouched n s k k (le_refl k)) (ap (changeOf n k) (line-between k (omega arith)) ∙ (next q sends n memory words good chain most k h).changes)
+  pub registers_after : (k : ℕ) → k < n → registers_of (hops n n (chain_with memory (command_line q))).memory k ≡ changed (registers_of memory k) (change_for q sends n memory words k)
+  registers_after k h =
+      let s = chain_with memory (command_line q) in
+      settled n s n k h ∙ ap (λ x. registers_of x.memory k) (next_of_chain n s k) ∙ hop_own n k (hops n k s)
+      ∙ ap₂ changed (untouched n s k k (le_refl k)) (ap (change_of n k) (line_between_lem k (omega arith)) ∙ (next q sends n memory words good chain most k h).changes)

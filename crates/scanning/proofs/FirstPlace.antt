@@ -9,18 +9,18 @@ use native.Mathlib.Nat.{add-suc, add-zero, eq-or-lt_of_le, suc-add, zero-add}
 use native.Mathlib.Numerals.{add-one, one-add}
 use native.Mathlib.Omega.{arith}
 use lib.ListN.{length, get_or}
-use Rattle.character_check.specs.Check.{isCharacter}
-use Rattle.characters.specs.Nibble.{isNibble}
+use Rattle.character_check.specs.Check.{is_character}
+use Rattle.characters.specs.Nibble.{is_nibble}
 use Rattle.lines.specs.Line.{between}
-use Rattle.lines.proofs.Between.{length-between, between-at}
-use Rattle.scanning.specs.Place.{firstFailing, firstNoCharacter, firstNoNibble, isNowhere, allNibbles}
-use Rattle.scanning.specs.Along.{failingAlong}
+use Rattle.lines.proofs.Between.{length_between, between_at}
+use Rattle.scanning.specs.Place.{first_failing, first_no_character, first_no_nibble, is_nowhere, all_nibbles}
+use Rattle.scanning.specs.Along.{failing_along}
 use Rattle.scanning.specs.declared.Place.{Place}
 use Rattle.scanning.specs.declared.Place.TheVariants.{At, Nowhere}
 
-is-nowhere : (p : Place) → isNowhere p ≡ true → p ≡ Nowhere
-is-nowhere (At i) e = absurd (false≢true e)
-is-nowhere Nowhere e = refl
+is_nowhere_lem : (p : Place) → is_nowhere p ≡ true → p ≡ Nowhere
+is_nowhere_lem (At i) e = absurd (false≢true e)
+is_nowhere_lem Nowhere e = refl
 
 module _ (test : ℕ → Bool) (line : List ℕ) where
   -- ---- one place, and the rest up to an end: what a loop goes by
@@ -28,30 +28,30 @@ module _ (test : ℕ → Bool) (line : List ℕ) where
     more : i < end → end - i ≡ suc (end - (i + 1))
     more h = omega arith
 
-    pub scan-on : i < end → test (get_or line i 0) ≡ true → failingAlong test line i (end - i) ≡ failingAlong test line (i + 1) (end - (i + 1))
-    unfolding failingAlong
-    scan-on h e =
-        ap (failingAlong test line i) (more h) ∙ ap (λ (t : Bool). cond t (failingAlong test line (suc i) (end - (i + 1))) (At i)) e
-        ∙ ap (λ (k : ℕ). failingAlong test line k (end - (i + 1))) (sym (add-one i))
+    pub scan_on : i < end → test (get_or line i 0) ≡ true → failing_along test line i (end - i) ≡ failing_along test line (i + 1) (end - (i + 1))
+    unfolding failing_along
+    scan_on h e =
+        ap (failing_along test line i) (more h) ∙ ap (λ (t : Bool). cond t (failing_along test line (suc i) (end - (i + 1))) (At i)) e
+        ∙ ap (λ (k : ℕ). failing_along test line k (end - (i + 1))) (sym (add-one i))
 
-    pub scan-here : i < end → test (get_or line i 0) ≡ false → failingAlong test line i (end - i) ≡ At i
-    unfolding failingAlong
-    scan-here h e =
-        ap (failingAlong test line i) (more h) ∙ ap (λ (t : Bool). cond t (failingAlong test line (suc i) (end - (i + 1))) (At i)) e
+    pub scan_here : i < end → test (get_or line i 0) ≡ false → failing_along test line i (end - i) ≡ At i
+    unfolding failing_along
+    scan_here h e =
+        ap (failing_along test line i) (more h) ∙ ap (λ (t : Bool). cond t (failing_along test line (suc i) (end - (i + 1))) (At i)) e
 
-    pub scan-done : end ≤ i → failingAlong test line i (end - i) ≡ Nowhere
-    unfolding failingAlong
-    scan-done h = let none : end - i ≡ 0 = omega arith in ap (failingAlong test line i) none
+    pub scan_done : end ≤ i → failing_along test line i (end - i) ≡ Nowhere
+    unfolding failing_along
+    scan_done h = let none : end - i ≡ 0 = omega arith in ap (failing_along test line i) none
 
   -- places that pass are passed over
-  pub passed_over : (i n m : ℕ) → ((j : ℕ) → i ≤ j → j < i + n → test (get_or line j 0) ≡ true) → failingAlong test line i (n + m) ≡ failingAlong test line (i + n) m
-  unfolding failingAlong
-  passed_over i zero m all = ap₂ (λ (k l : ℕ). failingAlong test line k l) (sym (add-zero i)) (zero-add m)
+  pub passed_over : (i n m : ℕ) → ((j : ℕ) → i ≤ j → j < i + n → test (get_or line j 0) ≡ true) → failing_along test line i (n + m) ≡ failing_along test line (i + n) m
+  unfolding failing_along
+  passed_over i zero m all = ap₂ (λ (k l : ℕ). failing_along test line k l) (sym (add-zero i)) (zero-add m)
   passed_over i (suc n) m all =
-      ap (failingAlong test line i) (suc-add n m)
-      ∙ ap (λ (t : Bool). cond t (failingAlong test line (suc i) (n + m)) (At i)) (all i (omega arith) (omega arith))
+      ap (failing_along test line i) (suc-add n m)
+      ∙ ap (λ (t : Bool). cond t (failing_along test line (suc i) (n + m)) (At i)) (all i (omega arith) (omega arith))
       ∙ passed_over (suc i) n m (λ j lo hi. all j (omega arith) (omega arith))
-      ∙ ap (λ (k : ℕ). failingAlong test line k m) (suc-add i n ∙ sym (add-suc i n))
+      ∙ ap (λ (k : ℕ). failing_along test line k m) (suc-add i n ∙ sym (add-suc i n))
 
   -- ---- what the answer says
 
@@ -87,76 +87,76 @@ module _ (test : ℕ → Bool) (line : List ℕ) where
   here i n e =
       record { from = omega arith; below = omega arith; fails = e; passes = λ j lo hi. absurd (omega arith) }
 
-  scan-says : (i n : ℕ) → Says i n (failingAlong test line i n)
-  unfolding failingAlong
-  scan-says i zero = λ j lo hi. absurd (omega arith)
-  scan-says i (suc n) = by-test (test (get_or line i 0)) refl (scan-says (suc i) n)
+  scan_says : (i n : ℕ) → Says i n (failing_along test line i n)
+  unfolding failing_along
+  scan_says i zero = λ j lo hi. absurd (omega arith)
+  scan_says i (suc n) = by_test (test (get_or line i 0)) refl (scan_says (suc i) n)
     where
-      by-test : (t : Bool) → test (get_or line i 0) ≡ t → Says (suc i) n (failingAlong test line (suc i) n)
-          → Says i (suc n) (cond t (failingAlong test line (suc i) n) (At i))
-      by-test true e s = passed i n (failingAlong test line (suc i) n) e s
-      by-test false e s = here i n e
+      by_test : (t : Bool) → test (get_or line i 0) ≡ t → Says (suc i) n (failing_along test line (suc i) n)
+          → Says i (suc n) (cond t (failing_along test line (suc i) n) (At i))
+      by_test true e s = passed i n (failing_along test line (suc i) n) e s
+      by_test false e s = here i n e
 
-  pub at_first : (i n k : ℕ) → failingAlong test line i n ≡ At k → FailsFirst i n k
-  at_first i n k e = subst (Says i n) e (scan-says i n)
+  pub at_first : (i n k : ℕ) → failing_along test line i n ≡ At k → FailsFirst i n k
+  at_first i n k e = subst (Says i n) e (scan_says i n)
 
-  pub nowhere-passes : (i n : ℕ) → failingAlong test line i n ≡ Nowhere → Passes i n
-  nowhere-passes i n e = subst (Says i n) e (scan-says i n)
+  pub nowhere_passes : (i n : ℕ) → failing_along test line i n ≡ Nowhere → Passes i n
+  nowhere_passes i n e = subst (Says i n) e (scan_says i n)
 
-  pub passes-nowhere : (i n : ℕ) → Passes i n → failingAlong test line i n ≡ Nowhere
-  passes-nowhere i n h = by_answer (failingAlong test line i n) (scan-says i n)
+  pub passes_nowhere : (i n : ℕ) → Passes i n → failing_along test line i n ≡ Nowhere
+  passes_nowhere i n h = by_answer (failing_along test line i n) (scan_says i n)
     where
       by_answer : (r : Place) → Says i n r → r ≡ Nowhere
       by_answer (At k) s = absurd (true≢false (sym (h k s.from s.below) ∙ s.fails))
       by_answer Nowhere s = refl
 
   -- what passes up to a place is passed over
-  pub skipped : (i k end : ℕ) → i ≤ k → k ≤ end → failingAlong test line i (k - i) ≡ Nowhere → failingAlong test line k (end - k) ≡ failingAlong test line i (end - i)
+  pub skipped : (i k end : ℕ) → i ≤ k → k ≤ end → failing_along test line i (k - i) ≡ Nowhere → failing_along test line k (end - k) ≡ failing_along test line i (end - i)
   skipped i k end lo hi none =
       let size : i + (k - i) ≡ k = omega arith in
       let rest : k - i + (end - k) ≡ end - i = omega arith in
-      sym (passed_over i (k - i) (end - k) (nowhere-passes i (k - i) none) ∙ ap (λ (j : ℕ). failingAlong test line j (end - k)) size)
-      ∙ ap (failingAlong test line i) rest
+      sym (passed_over i (k - i) (end - k) (nowhere_passes i (k - i) none) ∙ ap (λ (j : ℕ). failing_along test line j (end - k)) size)
+      ∙ ap (failing_along test line i) rest
 
   -- a block in which no place is found passes as well
-  pub block_on : (i k n : ℕ) → i ≤ k → failingAlong test line i (k - i) ≡ Nowhere → isNowhere (failingAlong test line k (k + n - k)) ≡ true
-      → failingAlong test line i (k + n - i) ≡ Nowhere
+  pub block_on : (i k n : ℕ) → i ≤ k → failing_along test line i (k - i) ≡ Nowhere → is_nowhere (failing_along test line k (k + n - k)) ≡ true
+      → failing_along test line i (k + n - i) ≡ Nowhere
   block_on i k n lo none block =
-      sym (skipped i k (k + n) lo (omega arith) none) ∙ is-nowhere (failingAlong test line k (k + n - k)) block
+      sym (skipped i k (k + n) lo (omega arith) none) ∙ is_nowhere_lem (failing_along test line k (k + n - k)) block
 
 -- where one test is the stricter, what passes it passes the other
 pub weaker : (strict test : ℕ → Bool) → ((w : ℕ) → strict w ≡ true → test w ≡ true) → (line : List ℕ) (i n : ℕ)
-    → failingAlong strict line i n ≡ Nowhere → failingAlong test line i n ≡ Nowhere
+    → failing_along strict line i n ≡ Nowhere → failing_along test line i n ≡ Nowhere
 weaker strict test also line i n none =
-    passes-nowhere test line i n (λ j lo hi. also (get_or line j 0) (nowhere-passes strict line i n none j lo hi))
+    passes_nowhere test line i n (λ j lo hi. also (get_or line j 0) (nowhere_passes strict line i n none j lo hi))
 
 -- ---- rows 4 and 6 by places
 
 -- words that stand on a line from place i on
 along : (test : ℕ → Bool) (line : List ℕ) (i : ℕ) (words : List ℕ) → ((k : ℕ) → k < length words → get_or words k 0 ≡ get_or line (i + k) 0)
-    → firstFailing test i words ≡ failingAlong test line i (length words)
-unfolding firstFailing failingAlong
+    → first_failing test i words ≡ failing_along test line i (length words)
+unfolding first_failing failing_along
 along test line i [] stand = refl
 along test line i (word ∷ words) stand =
     ap₂ (λ (w : ℕ) (p : Place). cond (test w) p (At i)) (stand 0 (omega arith) ∙ ap (λ (k : ℕ). get_or line k 0) (add-zero i))
     (along test line (suc i) words
     (λ k h. stand (suc k) (omega arith) ∙ ap (λ (j : ℕ). get_or line j 0) (add-suc i k ∙ sym (suc-add i k))))
 
-pub characters-along : (line : List ℕ) → firstNoCharacter line ≡ failingAlong isCharacter line 0 (length line)
-unfolding firstNoCharacter
-characters-along line = along isCharacter line 0 line (λ k h. ap (λ (j : ℕ). get_or line j 0) (sym (zero-add k)))
+pub characters_along : (line : List ℕ) → first_no_character line ≡ failing_along is_character line 0 (length line)
+unfolding first_no_character
+characters_along line = along is_character line 0 line (λ k h. ap (λ (j : ℕ). get_or line j 0) (sym (zero-add k)))
 
-pub nibbles-along : (line : List ℕ) → firstNoNibble line ≡ failingAlong isNibble line 1 (length line - 2)
-unfolding firstNoNibble
-nibbles-along line =
-    along isNibble line 1 (between line) (λ k h. between-at line k h ∙ ap (λ (j : ℕ). get_or line j 0) (sym (one-add k)))
-    ∙ ap (failingAlong isNibble line 1) (length-between line)
+pub nibbles_along : (line : List ℕ) → first_no_nibble line ≡ failing_along is_nibble line 1 (length line - 2)
+unfolding first_no_nibble
+nibbles_along line =
+    along is_nibble line 1 (between line) (λ k h. between_at line k h ∙ ap (λ (j : ℕ). get_or line j 0) (sym (one-add k)))
+    ∙ ap (failing_along is_nibble line 1) (length_between line)
 
 -- where every word between the ends is a nibble's, MANCHESTER finds no place; and a place where not
-pub nibbles-nowhere : (line : List ℕ) → allNibbles line ≡ true → firstNoNibble line ≡ Nowhere
-unfolding allNibbles
-nibbles-nowhere line e = is-nowhere (firstNoNibble line) e
+pub nibbles_nowhere : (line : List ℕ) → all_nibbles line ≡ true → first_no_nibble line ≡ Nowhere
+unfolding all_nibbles
+nibbles_nowhere line e = is_nowhere_lem (first_no_nibble line) e
 
-pub nowhere-nibbles : (line : List ℕ) → firstNoNibble line ≡ Nowhere → allNibbles line ≡ true
-unfolding allNibbles
-nowhere-nibbles line e = ap isNowhere e
+pub nowhere_nibbles : (line : List ℕ) → first_no_nibble line ≡ Nowhere → all_nibbles line ≡ true
+unfolding all_nibbles
+nowhere_nibbles line e = ap is_nowhere e

@@ -10,8 +10,8 @@ use borrow.Author.Tests.{ne_eqb}
 use Rattle.ground.specs.Sweep.{every}
 use Rattle.ground.proofs.Test.{below_or_not, same_truth}
 use Rattle.ground.proofs.Sweep.{swept}
-use Rattle.characters.specs.Nibble.{nibbleWord, trueBits, isNibble}
-use Rattle.characters.proofs.Nibble.{is-nibble-is, high_bits}
+use Rattle.characters.specs.Nibble.{nibble_word, true_bits, is_nibble}
+use Rattle.characters.proofs.Nibble.{is_nibble_is, high_bits}
 
 module _ (framing mask flips seen : ℕ) where
   abbrev unframed : ℕ → ℕ
@@ -21,7 +21,7 @@ module _ (framing mask flips seen : ℕ) where
   uncomplemented w = bit_and (bit_xor (bit_xor w (w / 2)) flips) seen
 
   unfoldable pub told : ℕ → Bool
-  told w = beq (eqb (bit_or (unframed w) (uncomplemented w)) 0) (eqb (nibbleWord (trueBits w)) w)
+  told w = beq (eqb (bit_or (unframed w) (uncomplemented w)) 0) (eqb (nibble_word (true_bits w)) w)
 
   -- a mask over bits 12 to 15, none of which the framing has, finds every word with high bits
   found : (w : ℕ) → w < 65536 → 4096 ≤ w → mask / 2 ^ 12 ≡ 2 ^ 4 - 1 → framing / 2 ^ 12 ≡ 0 → bit_or (unframed w) (uncomplemented w) ≡ 0 → ⊥
@@ -33,10 +33,10 @@ module _ (framing mask flips seen : ℕ) where
       ∙ sym (and_shr (bit_xor w framing) mask 12) ∙ ap (λ (x : ℕ). x / 2 ^ 12) nothing in
       omega arith
 
-  pub no-misfits : (w : ℕ) → w < 65536 → mask / 2 ^ 12 ≡ 2 ^ 4 - 1 → framing / 2 ^ 12 ≡ 0 → every told 4096 ≡ true
-      → eqb (bit_or (unframed w) (uncomplemented w)) 0 ≡ isNibble w
+  pub no_misfits : (w : ℕ) → w < 65536 → mask / 2 ^ 12 ≡ 2 ^ 4 - 1 → framing / 2 ^ 12 ≡ 0 → every told 4096 ≡ true
+      → eqb (bit_or (unframed w) (uncomplemented w)) 0 ≡ is_nibble w
   unfolding told
-  no-misfits w word over none all =
+  no_misfits w word over none all =
       ⊎_elim
-      (λ low. same_truth (eqb (bit_or (unframed w) (uncomplemented w)) 0) (eqb (nibbleWord (trueBits w)) w) (swept told 4096 all w low) ∙ sym (is-nibble-is w))
+      (λ low. same_truth (eqb (bit_or (unframed w) (uncomplemented w)) 0) (eqb (nibble_word (true_bits w)) w) (swept told 4096 all w low) ∙ sym (is_nibble_is w))
       (λ high. ne_eqb (bit_or (unframed w) (uncomplemented w)) 0 (found w word high over none) ∙ sym (high_bits w high)) (below_or_not w 4096)

@@ -10,62 +10,62 @@ use lib.Seq.{ext_get_or}
 use borrow.Author.Tests.{eq-eqb}
 use Rattle.remainder.specs.Turned.{Bytes}
 use Rattle.characters.specs.Character.{stop}
-use Rattle.character_check.specs.Check.{isCharacter}
-use Rattle.characters.specs.Nibble.{nibbleWord, trueBits, isNibble}
-use Rattle.characters.proofs.Nibble.{nibble-nibble, nibble-word, true-bits-lt}
-use Rattle.character_check.proofs.Pass.{preamble-character, stop-character, nibble-character}
-use Rattle.scanning.specs.Place.{firstNoCharacter, firstNoNibble}
-use Rattle.lines.specs.Line.{line_of, byteAt, bytes_of}
+use Rattle.character_check.specs.Check.{is_character}
+use Rattle.characters.specs.Nibble.{nibble_word, true_bits, is_nibble}
+use Rattle.characters.proofs.Nibble.{nibble_nibble, nibble_word_lem, true_bits_lt}
+use Rattle.character_check.proofs.Pass.{preamble_character, stop_character, nibble_character}
+use Rattle.scanning.specs.Place.{first_no_character, first_no_nibble}
+use Rattle.lines.specs.Line.{line_of, byte_at, bytes_of}
 use Rattle.scanning.specs.Frame.{framed}
 use Rattle.scanning.specs.declared.Place.TheVariants.{Nowhere}
-use Rattle.scanning.proofs.FirstPlace.{passes-nowhere, nowhere-passes, characters-along, nibbles-along}
-use Rattle.scanning.proofs.Ends.{framed-ends, first-preamble, last-stop}
-use Rattle.lines.proofs.Line.{byte_count, by_place, length-line, low_word, high_word, last_word, length-bytes, bytes-at}
+use Rattle.scanning.proofs.FirstPlace.{passes_nowhere, nowhere_passes, characters_along, nibbles_along}
+use Rattle.scanning.proofs.Ends.{framed_ends, first_preamble, last_stop}
+use Rattle.lines.proofs.Line.{byte_count, by_place, length_line, low_word, high_word, last_word, length_bytes, bytes_at}
 
 -- the three rows
 pub record Passes (line : List ℕ) : Type 0 where
-  pub characters : firstNoCharacter line ≡ Nowhere
+  pub characters : first_no_character line ≡ Nowhere
   pub frame : framed line ≡ true
-  pub nibbles : firstNoNibble line ≡ Nowhere
+  pub nibbles : first_no_nibble line ≡ Nowhere
 
 -- ---- the line of some bytes passes
 
 module _ (bytes : List ℕ) (b : Bytes bytes) where
-  low-nibble : (i : ℕ) → get_or bytes i 0 % 16 < 16
-  low-nibble i = omega arith
+  low_nibble : (i : ℕ) → get_or bytes i 0 % 16 < 16
+  low_nibble i = omega arith
 
-  high-nibble : (i : ℕ) → get_or bytes i 0 / 16 < 16
-  high-nibble i = let h = b i in omega arith
+  high_nibble : (i : ℕ) → get_or bytes i 0 / 16 < 16
+  high_nibble i = let h = b i in omega arith
 
-  every-character : (j : ℕ) → j < 2 * length bytes + 2 → isCharacter (get_or (line_of bytes) j 0) ≡ true
+  every_character : (j : ℕ) → j < 2 * length bytes + 2 → is_character (get_or (line_of bytes) j 0) ≡ true
   unfolding line_of
-  every-character =
-      by_place (λ (j : ℕ). isCharacter (get_or (line_of bytes) j 0) ≡ true) (length bytes) preamble-character
-      (λ i h. ap isCharacter (low_word bytes i h) ∙ nibble-character (get_or bytes i 0 % 16) (low-nibble i))
-      (λ i h. ap isCharacter (high_word bytes i h) ∙ nibble-character (get_or bytes i 0 / 16) (high-nibble i))
-      (ap isCharacter (last_word bytes) ∙ stop-character)
+  every_character =
+      by_place (λ (j : ℕ). is_character (get_or (line_of bytes) j 0) ≡ true) (length bytes) preamble_character
+      (λ i h. ap is_character (low_word bytes i h) ∙ nibble_character (get_or bytes i 0 % 16) (low_nibble i))
+      (λ i h. ap is_character (high_word bytes i h) ∙ nibble_character (get_or bytes i 0 / 16) (high_nibble i))
+      (ap is_character (last_word bytes) ∙ stop_character)
 
-  inner-nibble : (j : ℕ) → j < 2 * length bytes + 2 → 1 ≤ j → j ≤ 2 * length bytes → isNibble (get_or (line_of bytes) j 0) ≡ true
-  inner-nibble =
-      by_place (λ (j : ℕ). 1 ≤ j → j ≤ 2 * length bytes → isNibble (get_or (line_of bytes) j 0) ≡ true) (length bytes)
+  inner_nibble : (j : ℕ) → j < 2 * length bytes + 2 → 1 ≤ j → j ≤ 2 * length bytes → is_nibble (get_or (line_of bytes) j 0) ≡ true
+  inner_nibble =
+      by_place (λ (j : ℕ). 1 ≤ j → j ≤ 2 * length bytes → is_nibble (get_or (line_of bytes) j 0) ≡ true) (length bytes)
       (λ lo hi. absurd (omega arith))
-      (λ i h lo hi. ap isNibble (low_word bytes i h) ∙ nibble-nibble (get_or bytes i 0 % 16) (low-nibble i))
-      (λ i h lo hi. ap isNibble (high_word bytes i h) ∙ nibble-nibble (get_or bytes i 0 / 16) (high-nibble i))
+      (λ i h lo hi. ap is_nibble (low_word bytes i h) ∙ nibble_nibble (get_or bytes i 0 % 16) (low_nibble i))
+      (λ i h lo hi. ap is_nibble (high_word bytes i h) ∙ nibble_nibble (get_or bytes i 0 / 16) (high_nibble i))
       (λ lo hi. absurd (omega arith))
 
-  line-framed : framed (line_of bytes) ≡ true
+  line_framed : framed (line_of bytes) ≡ true
   unfolding line_of
-  line-framed =
-      let end : length (line_of bytes) - 1 ≡ 1 + 2 * length bytes = omega (arith, length-line bytes) in
-      framed-ends (line_of bytes) ∙ eq-eqb (get_or (line_of bytes) (length (line_of bytes) - 1) 0) stop (ap (λ (k : ℕ). get_or (line_of bytes) k 0) end ∙ last_word bytes)
+  line_framed =
+      let end : length (line_of bytes) - 1 ≡ 1 + 2 * length bytes = omega (arith, length_line bytes) in
+      framed_ends (line_of bytes) ∙ eq-eqb (get_or (line_of bytes) (length (line_of bytes) - 1) 0) stop (ap (λ (k : ℕ). get_or (line_of bytes) k 0) end ∙ last_word bytes)
 
-  pub line-passes : Passes (line_of bytes)
-  line-passes =
-      let words = length-line bytes in
+  pub line_passes : Passes (line_of bytes)
+  line_passes =
+      let words = length_line bytes in
       record {
-        characters = characters-along (line_of bytes) ∙ passes-nowhere isCharacter (line_of bytes) 0 (length (line_of bytes)) (λ j lo hi. every-character j (omega arith));
-        frame = line-framed;
-        nibbles = nibbles-along (line_of bytes) ∙ passes-nowhere isNibble (line_of bytes) 1 (length (line_of bytes) - 2) (λ j lo hi. inner-nibble j (omega arith) lo (omega arith));
+        characters = characters_along (line_of bytes) ∙ passes_nowhere is_character (line_of bytes) 0 (length (line_of bytes)) (λ j lo hi. every_character j (omega arith));
+        frame = line_framed;
+        nibbles = nibbles_along (line_of bytes) ∙ passes_nowhere is_nibble (line_of bytes) 1 (length (line_of bytes) - 2) (λ j lo hi. inner_nibble j (omega arith) lo (omega arith));
       }
 
 -- ---- a line that passes is the line of its own bytes
@@ -73,50 +73,50 @@ module _ (bytes : List ℕ) (b : Bytes bytes) where
 low_of : (x y : ℕ) → x < 16 → (x + 16 * y) % 16 ≡ x
 low_of x y h = omega arith
 
-high-of : (x y : ℕ) → x < 16 → (x + 16 * y) / 16 ≡ y
-high-of x y h = omega arith
+high_of : (x y : ℕ) → x < 16 → (x + 16 * y) / 16 ≡ y
+high_of x y h = omega arith
 
 module _ (line : List ℕ) (n : ℕ) (even : length line ≡ 2 * n + 2) (p : Passes line) where
   count : byte_count line ≡ n
   count = omega arith
 
-  is-nibble : (j : ℕ) → 1 ≤ j → j ≤ 2 * n → get_or line j 0 ≡ nibbleWord (trueBits (get_or line j 0))
-  is-nibble j lo hi =
-      nibble-word (get_or line j 0) (nowhere-passes isNibble line 1 (length line - 2) (sym (nibbles-along line) ∙ p.nibbles) j lo (omega arith))
+  is_nibble_lem : (j : ℕ) → 1 ≤ j → j ≤ 2 * n → get_or line j 0 ≡ nibble_word (true_bits (get_or line j 0))
+  is_nibble_lem j lo hi =
+      nibble_word_lem (get_or line j 0) (nowhere_passes is_nibble line 1 (length line - 2) (sym (nibbles_along line) ∙ p.nibbles) j lo (omega arith))
 
-  word-bits : ℕ → ℕ
-  word-bits j = trueBits (get_or line j 0)
+  word_bits : ℕ → ℕ
+  word_bits j = true_bits (get_or line j 0)
 
-  byte : (i : ℕ) → i < n → get_or (bytes_of line) i 0 ≡ word-bits (1 + 2 * i) + 16 * word-bits (2 + 2 * i)
-  unfolding byteAt word-bits
-  byte i h = bytes-at line i (omega (arith, count))
+  byte : (i : ℕ) → i < n → get_or (bytes_of line) i 0 ≡ word_bits (1 + 2 * i) + 16 * word_bits (2 + 2 * i)
+  unfolding byte_at word_bits
+  byte i h = bytes_at line i (omega (arith, count))
 
-  own-low : (i : ℕ) → i < n → get_or line (1 + 2 * i) 0 ≡ get_or (line_of (bytes_of line)) (1 + 2 * i) 0
-  unfolding word-bits
-  own-low i h =
-      is-nibble (1 + 2 * i) (omega arith) (omega arith)
-      ∙ ap nibbleWord (sym (ap (λ (x : ℕ). x % 16) (byte i h) ∙ low_of (word-bits (1 + 2 * i)) (word-bits (2 + 2 * i)) (true-bits-lt _)))
-      ∙ sym (low_word (bytes_of line) i (omega (arith, count, length-bytes line)))
+  own_low : (i : ℕ) → i < n → get_or line (1 + 2 * i) 0 ≡ get_or (line_of (bytes_of line)) (1 + 2 * i) 0
+  unfolding word_bits
+  own_low i h =
+      is_nibble_lem (1 + 2 * i) (omega arith) (omega arith)
+      ∙ ap nibble_word (sym (ap (λ (x : ℕ). x % 16) (byte i h) ∙ low_of (word_bits (1 + 2 * i)) (word_bits (2 + 2 * i)) (true_bits_lt _)))
+      ∙ sym (low_word (bytes_of line) i (omega (arith, count, length_bytes line)))
 
-  own-high : (i : ℕ) → i < n → get_or line (2 + 2 * i) 0 ≡ get_or (line_of (bytes_of line)) (2 + 2 * i) 0
-  unfolding word-bits
-  own-high i h =
-      is-nibble (2 + 2 * i) (omega arith) (omega arith)
-      ∙ ap nibbleWord (sym (ap (λ (x : ℕ). x / 16) (byte i h) ∙ high-of (word-bits (1 + 2 * i)) (word-bits (2 + 2 * i)) (true-bits-lt _)))
-      ∙ sym (high_word (bytes_of line) i (omega (arith, count, length-bytes line)))
+  own_high : (i : ℕ) → i < n → get_or line (2 + 2 * i) 0 ≡ get_or (line_of (bytes_of line)) (2 + 2 * i) 0
+  unfolding word_bits
+  own_high i h =
+      is_nibble_lem (2 + 2 * i) (omega arith) (omega arith)
+      ∙ ap nibble_word (sym (ap (λ (x : ℕ). x / 16) (byte i h) ∙ high_of (word_bits (1 + 2 * i)) (word_bits (2 + 2 * i)) (true_bits_lt _)))
+      ∙ sym (high_word (bytes_of line) i (omega (arith, count, length_bytes line)))
 
-  own-last : get_or line (1 + 2 * n) 0 ≡ get_or (line_of (bytes_of line)) (1 + 2 * n) 0
-  own-last =
+  own_last : get_or line (1 + 2 * n) 0 ≡ get_or (line_of (bytes_of line)) (1 + 2 * n) 0
+  own_last =
       let end : 1 + 2 * n ≡ length line - 1 = omega arith in
-      let own-end : 1 + 2 * n ≡ 1 + 2 * length (bytes_of line) = omega (arith, count, length-bytes line) in
-      ap (λ (k : ℕ). get_or line k 0) end ∙ last-stop line p.frame
-      ∙ sym (ap (λ (k : ℕ). get_or (line_of (bytes_of line)) k 0) own-end ∙ last_word (bytes_of line))
+      let own_end : 1 + 2 * n ≡ 1 + 2 * length (bytes_of line) = omega (arith, count, length_bytes line) in
+      ap (λ (k : ℕ). get_or line k 0) end ∙ last_stop line p.frame
+      ∙ sym (ap (λ (k : ℕ). get_or (line_of (bytes_of line)) k 0) own_end ∙ last_word (bytes_of line))
 
   own_first : get_or line 0 0 ≡ get_or (line_of (bytes_of line)) 0 0
   unfolding line_of
-  own_first = first-preamble line p.frame
+  own_first = first_preamble line p.frame
 
-  pub own-bytes : line ≡ line_of (bytes_of line)
-  own-bytes =
-      ext_get_or 0 line (line_of (bytes_of line)) (omega (arith, count, length-line (bytes_of line), length-bytes line))
-      (λ j h. by_place (λ (j : ℕ). get_or line j 0 ≡ get_or (line_of (bytes_of line)) j 0) n own_first own-low own-high own-last j (omega arith))
+  pub own_bytes : line ≡ line_of (bytes_of line)
+  own_bytes =
+      ext_get_or 0 line (line_of (bytes_of line)) (omega (arith, count, length_line (bytes_of line), length_bytes line))
+      (λ j h. by_place (λ (j : ℕ). get_or line j 0 ≡ get_or (line_of (bytes_of line)) j 0) n own_first own_low own_high own_last j (omega arith))

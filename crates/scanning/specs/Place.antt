@@ -1,28 +1,28 @@
 -- Bad places of a line (document 01, rows 4 and 6 of "Turned away"): the lowest one, counted in words from 0, or none.
 use Rattle.std.specs.Prelude.{Bool, true, false, cond, List, [], ◌∷◌, ℕ, suc}
-use Rattle.character_check.specs.Check.{isCharacter}
-use Rattle.characters.specs.Nibble.{isNibble}
+use Rattle.character_check.specs.Check.{is_character}
+use Rattle.characters.specs.Nibble.{is_nibble}
 use Rattle.lines.specs.Line.{between}
 use Rattle.scanning.specs.declared.Place.{Place}
 use Rattle.scanning.specs.declared.Place.TheVariants.{At, Nowhere}
 
 -- the lowest place whose word fails the test, of words of which the first stands at place i
-unfoldable pub firstFailing : (test : ℕ → Bool) → (i : ℕ) → (words : List ℕ) → Place
-firstFailing test i [] = Nowhere
-firstFailing test i (word ∷ words) = cond (test word) (firstFailing test (suc i) words) (At i)
+unfoldable pub first_failing : (test : ℕ → Bool) → (i : ℕ) → (words : List ℕ) → Place
+first_failing test i [] = Nowhere
+first_failing test i (word ∷ words) = cond (test word) (first_failing test (suc i) words) (At i)
 
 -- CHARACTER looks at every word
-unfoldable pub firstNoCharacter : List ℕ → Place
-firstNoCharacter line = firstFailing isCharacter 0 line
+unfoldable pub first_no_character : List ℕ → Place
+first_no_character line = first_failing is_character 0 line
 
 -- MANCHESTER looks at the words between the first and the last
-unfoldable pub firstNoNibble : List ℕ → Place
-firstNoNibble line = firstFailing isNibble 1 (between line)
+unfoldable pub first_no_nibble : List ℕ → Place
+first_no_nibble line = first_failing is_nibble 1 (between line)
 
-abbrev pub isNowhere : Place → Bool
-isNowhere (At i) = false
-isNowhere Nowhere = true
+abbrev pub is_nowhere : Place → Bool
+is_nowhere (At i) = false
+is_nowhere Nowhere = true
 
 -- whether MANCHESTER finds nothing: every word between the first and the last is a nibble's
-unfoldable pub allNibbles : List ℕ → Bool
-allNibbles line = isNowhere (firstNoNibble line)
+unfoldable pub all_nibbles : List ℕ → Bool
+all_nibbles line = is_nowhere (first_no_nibble line)

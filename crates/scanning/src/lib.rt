@@ -1,8 +1,8 @@
 // A line's words looked through: the first bad place, and the framing (document 01, rows 4 to 6 of "Turned away").
 ghost use Rattle.std.specs.Prelude.{◌≡◌, ◌≤◌, ◌-◌, eqb, length};
-ghost use Rattle.characters.specs.Nibble.{isNibble};
-ghost use Rattle.scanning.specs.Place.{firstNoCharacter, firstNoNibble, isNowhere, allNibbles};
-ghost use Rattle.scanning.specs.Along.{test_of, failingAlong};
+ghost use Rattle.characters.specs.Nibble.{is_nibble};
+ghost use Rattle.scanning.specs.Place.{first_no_character, first_no_nibble, is_nowhere, all_nibbles};
+ghost use Rattle.scanning.specs.Along.{test_of, failing_along};
 ghost use Rattle.scanning.specs.Frame.{framed};
 ghost use Rattle.scanning.specs.declared.Place.TheVariants.{Nowhere};
 
@@ -35,7 +35,7 @@ fn passes(row: Row, w: u16) -> bool
 // What keeps a word from being a nibble's, by bits: high bits, start, stops and parity that are not as in one, and bits that are not followed by
 // their complement. 0 for a nibble's word.
 fn misfits(w: u16) -> u16
-    ensures { eqb result 0 ≡ isNibble w }
+    ensures { eqb result 0 ≡ is_nibble w }
 {
     ((w ^ 0xC00) & 0xFE01) | ((w ^ (w / 2) ^ 0xAA) & 0xAA)
 }
@@ -43,7 +43,7 @@ fn misfits(w: u16) -> u16
 // Whether every word from one place up to another is a nibble's. No word stops the loop, so that many are looked at at a time.
 fn are_nibbles(line: &[u16], from: usize, to: usize) -> bool
     requires { to ≤ length line.now }
-    ensures { result ≡ isNowhere (failingAlong isNibble line.now from (to - from)) }
+    ensures { result ≡ is_nowhere (failing_along is_nibble line.now from (to - from)) }
 {
     let mut bad: u16 = 0;
     let mut i = from;
@@ -57,7 +57,7 @@ fn are_nibbles(line: &[u16], from: usize, to: usize) -> bool
 // A place up to which all words are nibbles', sixteen at a time.
 fn pass_nibbles(line: &[u16], from: usize, to: usize) -> usize
     requires { (from ≤ to) × (to ≤ length line.now) }
-    ensures { (from ≤ result) × (result ≤ to) × (failingAlong isNibble line.now from (result - from) ≡ Nowhere) }
+    ensures { (from ≤ result) × (result ≤ to) × (failing_along is_nibble line.now from (result - from) ≡ Nowhere) }
 {
     let mut i = from;
     while 16 <= to - i {
@@ -72,7 +72,7 @@ fn pass_nibbles(line: &[u16], from: usize, to: usize) -> usize
 // The first place from one up to another whose word fails the row's test.
 fn first_failing(line: &[u16], row: Row, from: usize, to: usize) -> Place
     requires { to ≤ length line.now }
-    ensures { result ≡ failingAlong (test_of row) line.now from (to - from) }
+    ensures { result ≡ failing_along (test_of row) line.now from (to - from) }
 {
     let mut i = from;
     while i < to {
@@ -86,7 +86,7 @@ fn first_failing(line: &[u16], row: Row, from: usize, to: usize) -> Place
 
 // The first place whose word is no character. A nibble is a character: behind the first word, nibbles are passed over.
 pub fn first_no_character(line: &[u16]) -> Place
-    ensures { result ≡ firstNoCharacter line.now }
+    ensures { result ≡ first_no_character line.now }
 {
     if line.len() == 0 {
         return Place::Nowhere;
@@ -100,7 +100,7 @@ pub fn first_no_character(line: &[u16]) -> Place
 
 // The first place between the ends whose word is no nibble.
 pub fn first_no_nibble(line: &[u16]) -> Place
-    ensures { result ≡ firstNoNibble line.now }
+    ensures { result ≡ first_no_nibble line.now }
 {
     if line.len() < 2 {
         return Place::Nowhere;
@@ -111,7 +111,7 @@ pub fn first_no_nibble(line: &[u16]) -> Place
 
 // Whether every word between the ends is a nibble's.
 pub fn all_nibbles(line: &[u16]) -> bool
-    ensures { result ≡ allNibbles line.now }
+    ensures { result ≡ all_nibbles line.now }
 {
     if line.len() < 2 {
         return true;

@@ -9,15 +9,15 @@ use lib.Dec.{eqb}
 use lib.ListN.{take, drop, set}
 use lib.Seq.{drop-set-lt, drop-set-add, take-set-le, take-set-lt}
 use Rattle.ground.proofs.Test.{below_or_not}
-use Rattle.lines.proofs.Line.{byte-lt}
+use Rattle.lines.proofs.Line.{byte_lt}
 use Rattle.questions.specs.declared.question.Question.{Question}
 use Rattle.hearing.specs.Hear.{plainly, heard}
 use Rattle.passage.specs.Acting.{acts}
-use Rattle.passage.specs.Pass.{changeAsked, changed, changeOf}
-use Rattle.hearing.proofs.Hearing.{heard-either}
+use Rattle.passage.specs.Pass.{change_asked, changed, change_of}
+use Rattle.hearing.proofs.Hearing.{heard_either}
 use Rattle.passage.specs.declared.pass.Change.{Change}
 use Rattle.passage.specs.declared.pass.Change.TheVariants as change
-use Rattle.twin.specs.Step.{registersOf, withChange, Chain, hop}
+use Rattle.twin.specs.Step.{registers_of, with_change, Chain, hop}
 
 -- a change of a register is one of the 256
 pub data InFile : Change → Type 0 where
@@ -25,16 +25,16 @@ pub data InFile : Change → Type 0 where
   store : (r v : ℕ) → r < 256 → InFile (change.Store r v)
 
 module _ (memory : List ℕ) (k : ℕ) where
-  own-stored : (r v : ℕ) → r < 256 → registersOf (set memory (256 * k + r) v) k ≡ set (registersOf memory k) r v
-  own-stored r v h = ap (take 256) (drop-set-add (256 * k) memory r v) ∙ take-set-lt 256 (drop (256 * k) memory) r v h
+  own_stored : (r v : ℕ) → r < 256 → registers_of (set memory (256 * k + r) v) k ≡ set (registers_of memory k) r v
+  own_stored r v h = ap (take 256) (drop-set-add (256 * k) memory r v) ∙ take-set-lt 256 (drop (256 * k) memory) r v h
 
   -- the stepped device's registers
-  pub own-registers : (c : Change) → InFile c → registersOf (withChange memory k c) k ≡ changed (registersOf memory k) c
-  own-registers change.Nothing nothing = refl
-  own-registers (change.Store r v) (store _ _ h) = own-stored r v h
+  pub own_registers : (c : Change) → InFile c → registers_of (with_change memory k c) k ≡ changed (registers_of memory k) c
+  own_registers change.Nothing nothing = refl
+  own_registers (change.Store r v) (store _ _ h) = own_stored r v h
 
-  other-stored : (j r v : ℕ) → (j ≡ k → ⊥) → r < 256 → registersOf (set memory (256 * k + r) v) j ≡ registersOf memory j
-  other-stored j r v differ h =
+  other_stored : (j r v : ℕ) → (j ≡ k → ⊥) → r < 256 → registers_of (set memory (256 * k + r) v) j ≡ registers_of memory j
+  other_stored j r v differ h =
       ⊎_elim
       (λ (below : k < j). ap (take 256) (drop-set-lt (256 * j) memory (256 * k + r) v (omega arith)))
       (λ (above : j ≤ k). ⊎_elim
@@ -47,37 +47,37 @@ module _ (memory : List ℕ) (k : ℕ) where
       (below_or_not k j)
 
   -- every other device's
-  pub other-registers : (j : ℕ) → (j ≡ k → ⊥) → (c : Change) → InFile c → registersOf (withChange memory k c) j ≡ registersOf memory j
-  other-registers j differ change.Nothing nothing = refl
-  other-registers j differ (change.Store r v) (store _ _ h) = other-stored j r v differ h
+  pub other_registers : (j : ℕ) → (j ≡ k → ⊥) → (c : Change) → InFile c → registers_of (with_change memory k c) j ≡ registers_of memory j
+  other_registers j differ change.Nothing nothing = refl
+  other_registers j differ (change.Store r v) (store _ _ h) = other_stored j r v differ h
 
 -- ---- the change that a step asks for
 
-either-in-file : (t : Bool) (a b : Change) → InFile a → InFile b → InFile (cond t a b)
-either-in-file true a b h h' = h
-either-in-file false a b h h' = h'
+either_in_file : (t : Bool) (a b : Change) → InFile a → InFile b → InFile (cond t a b)
+either_in_file true a b h h' = h
+either_in_file false a b h h' = h'
 
-asked-in-file : (q : Question) → q.reg < 256 → InFile (changeAsked q)
-asked-in-file q h =
-    let stored = either-in-file (eqb q.reg 0x00) change.Nothing (change.Store q.reg q.value) nothing (store q.reg q.value h) in
-    either-in-file (eqb q.kind 1) _ _ stored (either-in-file (eqb q.kind 2) _ _ stored nothing)
+asked_in_file : (q : Question) → q.reg < 256 → InFile (change_asked q)
+asked_in_file q h =
+    let stored = either_in_file (eqb q.reg 0x00) change.Nothing (change.Store q.reg q.value) nothing (store q.reg q.value h) in
+    either_in_file (eqb q.kind 1) _ _ stored (either_in_file (eqb q.kind 2) _ _ stored nothing)
 
-reg-lt : (n k : ℕ) (line : List ℕ) → (plainly n k line).reg < 256
+reg_lt : (n k : ℕ) (line : List ℕ) → (plainly n k line).reg < 256
 unfolding plainly
-reg-lt n k line = byte-lt line 1
+reg_lt n k line = byte_lt line 1
 
-change-in-file : (n k : ℕ) (line : List ℕ) → InFile (changeOf n k line)
-unfolding changeOf
-change-in-file n k line =
-    either-in-file (acts n k line) _ _ (asked-in-file (heard n k line) (heard-either n k line (λ q. q.reg < 256) (reg-lt n k line) (reg-lt n k line))) nothing
+change_in_file : (n k : ℕ) (line : List ℕ) → InFile (change_of n k line)
+unfolding change_of
+change_in_file n k line =
+    either_in_file (acts n k line) _ _ (asked_in_file (heard n k line) (heard_either n k line (λ q. q.reg < 256) (reg_lt n k line) (reg_lt n k line))) nothing
 
 -- ---- a step, by its rule
 
 module _ (n k : ℕ) (s : Chain) where
   -- the device's own registers change as the line asks of it
-  pub hop-own : registersOf (hop n k s).memory k ≡ changed (registersOf s.memory k) (changeOf n k s.line)
-  hop-own = own-registers s.memory k (changeOf n k s.line) (change-in-file n k s.line)
+  pub hop_own : registers_of (hop n k s).memory k ≡ changed (registers_of s.memory k) (change_of n k s.line)
+  hop_own = own_registers s.memory k (change_of n k s.line) (change_in_file n k s.line)
 
   -- and no other device's
-  pub hop-other : (j : ℕ) → (j ≡ k → ⊥) → registersOf (hop n k s).memory j ≡ registersOf s.memory j
-  hop-other j differ = other-registers s.memory k j differ (changeOf n k s.line) (change-in-file n k s.line)
+  pub hop_other : (j : ℕ) → (j ≡ k → ⊥) → registers_of (hop n k s).memory j ≡ registers_of s.memory j
+  hop_other j differ = other_registers s.memory k j differ (change_of n k s.line) (change_in_file n k s.line)

@@ -7,117 +7,117 @@ use lib.Dec.{leb}
 use lib.ListN.{length, take, drop, length-set}
 use lib.Seq.{take_at, drop_at}
 use borrow.Author.Tests.{le-leb, lt-leb}
-use Rattle.lines.specs.Write.{atFront, leftBy}
+use Rattle.lines.specs.Write.{at_front, left_by}
 use Rattle.passage.specs.Acting.{acts}
-use Rattle.passage.specs.Pass.{changeOf}
+use Rattle.passage.specs.Pass.{change_of}
 use Rattle.passage.specs.declared.pass.Change.{Change}
 use Rattle.passage.specs.declared.pass.Change.TheVariants.{Nothing, Store}
-use Rattle.passage.proofs.ActedLength.{long-unacted}
-use Rattle.passage.proofs.EqualLength.{length-handed}
-use Rattle.passage.proofs.Passing.{left-unchanged, nothing_stored}
-use Rattle.twin.specs.Step.{registersOf, withChange, Chain, chainWith, hop, hopsFrom, Hopped, steppedOf, steppedNumber, Done}
+use Rattle.passage.proofs.ActedLength.{long_unacted}
+use Rattle.passage.proofs.EqualLength.{length_handed}
+use Rattle.passage.proofs.Passing.{left_unchanged, nothing_stored}
+use Rattle.twin.specs.Step.{registers_of, with_change, Chain, chain_with, hop, hops_from, Hopped, stepped_of, stepped_number, Done}
 use Rattle.twin.specs.declared.step.Stepped.{Stepped}
 use Rattle.twin.specs.declared.step.Stepped.TheVariants.{Handed, Twin, Room}
 
 -- ---- the three answers
 
 module _ (fits : Bool) (before after : Chain) (out : List ℕ) where
-  stepped_by : (t u : Bool) → fits ≡ t → leb (length before.line) (length out) ≡ u → steppedOf fits before.line out ≡ cond t (cond u Handed Room) Twin
-  unfolding steppedOf
+  stepped_by : (t u : Bool) → fits ≡ t → leb (length before.line) (length out) ≡ u → stepped_of fits before.line out ≡ cond t (cond u Handed Room) Twin
+  unfolding stepped_of
   stepped_by t u e f = ap₂ (λ (t u : Bool). cond t (cond u Handed Room) Twin) e f
 
   -- what is left, by the answer
-  out-by : (s : Stepped) → steppedOf fits before.line out ≡ s
-      → leftBy (steppedNumber (steppedOf fits before.line out)) (atFront after.line out) out ≡ leftBy (steppedNumber s) (atFront after.line out) out
-  out-by s is = ap (λ (s : Stepped). leftBy (steppedNumber s) (atFront after.line out) out) is
+  out_by : (s : Stepped) → stepped_of fits before.line out ≡ s
+      → left_by (stepped_number (stepped_of fits before.line out)) (at_front after.line out) out ≡ left_by (stepped_number s) (at_front after.line out) out
+  out_by s is = ap (λ (s : Stepped). left_by (stepped_number s) (at_front after.line out) out) is
 
-  memory-by : (s : Stepped) → steppedOf fits before.line out ≡ s
-      → leftBy (steppedNumber (steppedOf fits before.line out)) after.memory before.memory ≡ leftBy (steppedNumber s) after.memory before.memory
-  memory-by s is = ap (λ (s : Stepped). leftBy (steppedNumber s) after.memory before.memory) is
+  memory_by : (s : Stepped) → stepped_of fits before.line out ≡ s
+      → left_by (stepped_number (stepped_of fits before.line out)) after.memory before.memory ≡ left_by (stepped_number s) after.memory before.memory
+  memory_by s is = ap (λ (s : Stepped). left_by (stepped_number s) after.memory before.memory) is
 
-  pub turned-away : fits ≡ false → Done fits before after out out before.memory Twin
-  turned-away e =
+  pub turned_away : fits ≡ false → Done fits before after out out before.memory Twin
+  turned_away e =
       let is = stepped_by false (leb (length before.line) (length out)) e refl in
-      record { says = sym is; leaves = sym (out-by Twin is); remembers = sym (memory-by Twin is) }
+      record { says = sym is; leaves = sym (out_by Twin is); remembers = sym (memory_by Twin is) }
 
   pub no_room : fits ≡ true → length out < length before.line → Done fits before after out out before.memory Room
   no_room e short =
       let is = stepped_by true false e (lt-leb (length before.line) (length out) short) in
-      record { says = sym is; leaves = sym (out-by Room is); remembers = sym (memory-by Room is) }
+      record { says = sym is; leaves = sym (out_by Room is); remembers = sym (memory_by Room is) }
 
   module _ (good : fits ≡ true) (room : length before.line ≤ length out) where
-    handed : steppedOf fits before.line out ≡ Handed
+    handed : stepped_of fits before.line out ≡ Handed
     handed = stepped_by true true good (le-leb (length before.line) (length out) room)
 
-    pub handed-on : (outAfter memory : List ℕ) → length after.line ≡ length before.line
-        → outAfter ≡ after.line ++ drop (length before.line) out → memory ≡ after.memory → Done fits before after out outAfter memory Handed
-    handed-on outAfter memory size leaves remembers =
+    pub handed_on : (out_after memory : List ℕ) → length after.line ≡ length before.line
+        → out_after ≡ after.line ++ drop (length before.line) out → memory ≡ after.memory → Done fits before after out out_after memory Handed
+    handed_on out_after memory size leaves remembers =
         record {
           says = sym handed;
-          leaves = leaves ∙ ap (λ (k : ℕ). after.line ++ drop k out) (sym size) ∙ sym (out-by Handed handed);
-          remembers = remembers ∙ sym (memory-by Handed handed);
+          leaves = leaves ∙ ap (λ (k : ℕ). after.line ++ drop k out) (sym size) ∙ sym (out_by Handed handed);
+          remembers = remembers ∙ sym (memory_by Handed handed);
         }
 
 -- ---- a call that fits and has room
 
-module _ (before after : Chain) (out outAfter memoryLeft : List ℕ) (r : Stepped) (fits : Bool) (done : Done fits before after out outAfter memoryLeft r)
+module _ (before after : Chain) (out out_after memory_left : List ℕ) (r : Stepped) (fits : Bool) (done : Done fits before after out out_after memory_left r)
     (good : fits ≡ true) (room : length before.line ≤ length out) where
-  pub says-handed : r ≡ Handed
-  says-handed = done.says ∙ handed fits before after out good room
+  pub says_handed : r ≡ Handed
+  says_handed = done.says ∙ handed fits before after out good room
 
-  pub leaves-line : outAfter ≡ atFront after.line out
-  leaves-line = done.leaves ∙ out-by fits before after out Handed (handed fits before after out good room)
+  pub leaves_line : out_after ≡ at_front after.line out
+  leaves_line = done.leaves ∙ out_by fits before after out Handed (handed fits before after out good room)
 
-  pub leaves-memory : memoryLeft ≡ after.memory
-  leaves-memory = done.remembers ∙ memory-by fits before after out Handed (handed fits before after out good room)
+  pub leaves_memory : memory_left ≡ after.memory
+  leaves_memory = done.remembers ∙ memory_by fits before after out Handed (handed fits before after out good room)
 
 -- ---- a hop on words that hold the line in front
 
 module _ (n k : ℕ) (s : Chain) (rest : List ℕ) where
-  pub hopped-on : (words : ℕ) (memory memoryLeft out outAfter : List ℕ) → length s.line ≡ words → memory ≡ s.memory → out ≡ s.line ++ rest
-      → Hopped n k words memory memoryLeft out outAfter → (memoryLeft ≡ (hop n k s).memory) × (outAfter ≡ (hop n k s).line ++ rest)
-  hopped-on words memory memoryLeft out outAfter size holds front done =
+  pub hopped_on : (words : ℕ) (memory memory_left out out_after : List ℕ) → length s.line ≡ words → memory ≡ s.memory → out ≡ s.line ++ rest
+      → Hopped n k words memory memory_left out out_after → (memory_left ≡ (hop n k s).memory) × (out_after ≡ (hop n k s).line ++ rest)
+  hopped_on words memory memory_left out out_after size holds front done =
       let line : take words out ≡ s.line = ap (take words) front ∙ take_at s.line rest words size in
       let behind : drop words out ≡ rest = ap (drop words) front ∙ drop_at s.line rest words size in (
-        done.remembers ∙ ap₂ (λ (m l : List ℕ). (hop n k (chainWith m l)).memory) holds line,
-        done.leaves ∙ ap₂ (λ (x y : List ℕ). x ++ y) (ap₂ (λ (m l : List ℕ). (hop n k (chainWith m l)).line) holds line) behind,
+        done.remembers ∙ ap₂ (λ (m l : List ℕ). (hop n k (chain_with m l)).memory) holds line,
+        done.leaves ∙ ap₂ (λ (x y : List ℕ). x ++ y) (ap₂ (λ (m l : List ℕ). (hop n k (chain_with m l)).line) holds line) behind,
       )
 
 -- a device that does not act hands on the line as it came, and changes no register
-pub hop-unacted : (n k : ℕ) (s : Chain) → acts n k s.line ≡ false → hop n k s ≡ s
-hop-unacted n k s e =
-    ap₂ chainWith (ap (withChange s.memory k) (nothing_stored n k (registersOf s.memory k) s.line e))
-    (left-unchanged n k (registersOf s.memory k) s.line e)
+pub hop_unacted : (n k : ℕ) (s : Chain) → acts n k s.line ≡ false → hop n k s ≡ s
+hop_unacted n k s e =
+    ap₂ chain_with (ap (with_change s.memory k) (nothing_stored n k (registers_of s.memory k) s.line e))
+    (left_unchanged n k (registers_of s.memory k) s.line e)
 
 -- so a line longer than any command passes unchanged
-pub hop-long : (n k : ℕ) (s : Chain) → 140 < length s.line → hop n k s ≡ s
-hop-long n k s long = hop-unacted n k s (long-unacted n k s.line long)
+pub hop_long : (n k : ℕ) (s : Chain) → 140 < length s.line → hop n k s ≡ s
+hop_long n k s long = hop_unacted n k s (long_unacted n k s.line long)
 
 -- no device changes the length of the line
-pub hop-length : (n k : ℕ) (s : Chain) → length (hop n k s).line ≡ length s.line
-hop-length n k s = length-handed n k s.line (registersOf s.memory k)
+pub hop_length : (n k : ℕ) (s : Chain) → length (hop n k s).line ≡ length s.line
+hop_length n k s = length_handed n k s.line (registers_of s.memory k)
 
 -- what both ways of a test have
 either : (P : Chain → Type 0) (t : Bool) (x y : Chain) → P x → P y → P (cond t x y)
 either P true x y p q = p
 either P false x y p q = q
 
-pub hops-length : (n from to : ℕ) (s : Chain) → length (hopsFrom n from to s).line ≡ length s.line
-unfolding hopsFrom
-hops-length n from zero s = refl
-hops-length n from (suc k) s =
-    let before = hopsFrom n from k s in
-    either (λ (x : Chain). length x.line ≡ length s.line) (leb from k) (hop n k before) s (hop-length n k before ∙ hops-length n from k s) refl
+pub hops_length : (n from to : ℕ) (s : Chain) → length (hops_from n from to s).line ≡ length s.line
+unfolding hops_from
+hops_length n from zero s = refl
+hops_length n from (suc k) s =
+    let before = hops_from n from k s in
+    either (λ (x : Chain). length x.line ≡ length s.line) (leb from k) (hop n k before) s (hop_length n k before ∙ hops_length n from k s) refl
 
 -- and no device changes how many registers there are
-with-change-length : (memory : List ℕ) (k : ℕ) (c : Change) → length (withChange memory k c) ≡ length memory
-with-change-length memory k Nothing = refl
-with-change-length memory k (Store r v) = length-set memory (256 * k + r) v
+with_change_length : (memory : List ℕ) (k : ℕ) (c : Change) → length (with_change memory k c) ≡ length memory
+with_change_length memory k Nothing = refl
+with_change_length memory k (Store r v) = length-set memory (256 * k + r) v
 
-pub hops-memory : (n from to : ℕ) (s : Chain) → length (hopsFrom n from to s).memory ≡ length s.memory
-unfolding hopsFrom
-hops-memory n from zero s = refl
-hops-memory n from (suc k) s =
-    let before = hopsFrom n from k s in
+pub hops_memory : (n from to : ℕ) (s : Chain) → length (hops_from n from to s).memory ≡ length s.memory
+unfolding hops_from
+hops_memory n from zero s = refl
+hops_memory n from (suc k) s =
+    let before = hops_from n from k s in
     either (λ (x : Chain). length x.memory ≡ length s.memory) (leb from k) (hop n k before) s
-    (with-change-length before.memory k (changeOf n k before.line) ∙ hops-memory n from k s) refl
+    (with_change_length before.memory k (change_of n k before.line) ∙ hops_memory n from k s) refl

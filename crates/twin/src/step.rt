@@ -1,7 +1,7 @@
 // Devices stepped: each takes the line as it stands and hands on a line of equal length.
 ghost use Rattle.std.specs.Prelude.{◌≡◌, ◌+◌, ◌*◌, ◌≤◌, ◌<◌, length};
-ghost use Rattle.lines.specs.Write.{atFront};
-ghost use Rattle.twin.specs.Step.{withChange, Hopped, isSpan, StepDone, SpanDone, ChainDone};
+ghost use Rattle.lines.specs.Write.{at_front};
+ghost use Rattle.twin.specs.Step.{with_change, Hopped, is_span, StepDone, SpanDone, ChainDone};
 
 use passage::pass::{Change, pass};
 use registers::is_chain;
@@ -16,7 +16,7 @@ pub enum Stepped {
 
 fn copy(line: &[u16], out: &mut [u16])
     requires { length line.now ≤ length out.old }
-    ensures { out.new ≡ atFront line.now out.old }
+    ensures { out.new ≡ at_front line.now out.old }
 {
     let mut i = 0;
     while i < line.len() {
@@ -28,7 +28,7 @@ fn copy(line: &[u16], out: &mut [u16])
 // A device's register takes a new value, or none does.
 fn keep(memory: &mut [u16], device: u8, change: Change)
     requires { 256 * device + 256 ≤ length memory.old }
-    ensures { memory.new ≡ withChange memory.old device change }
+    ensures { memory.new ≡ with_change memory.old device change }
 {
     match change {
         Change::Nothing => {}
@@ -69,7 +69,7 @@ pub fn step(n: u8, device: u8, memory: &mut [u16], line: &[u16], out: &mut [u16]
 
 // Whether this is a chain, and devices from .. to - 1 are of it: all of them, some, or none.
 fn is_span(n: u8, from: u8, to: u8, words: usize) -> bool
-    ensures { result ≡ isSpan n from to words }
+    ensures { result ≡ is_span n from to words }
 {
     if !is_chain(n, words) {
         return false;

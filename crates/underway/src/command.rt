@@ -2,8 +2,8 @@
 // them, and the seal of PEC and alive byte.
 ghost use Rattle.std.specs.Prelude.{◌≡◌, ◌+◌, ◌-◌, ◌*◌, ◌%◌, ◌<◌, ◌≤◌, [], ◌∷◌, ◌++◌, length, take};
 ghost use Rattle.questions.specs.Shape.{shape_of};
-ghost use Rattle.questions.specs.Bytes.{lowHigh, sealed, fillPairs};
-ghost use Rattle.underway.specs.OnTheWay.{onTheWay};
+ghost use Rattle.questions.specs.Bytes.{low_high, sealed, fill_pairs};
+ghost use Rattle.underway.specs.OnTheWay.{on_the_way};
 ghost use Rattle.underway.specs.Lay.{Holds};
 
 use crate::pieces::{push, push_all, push_pairs, push_value};
@@ -14,7 +14,7 @@ use std::num::wrapping_add_u8;
 // A command on its way, at the front of the buffer.
 pub(crate) fn lay(q: Question, count: u8, added: u8, wire: &[u8], bytes: &mut [u8]) -> usize
     requires { ((shape_of q).first < 256) × ((shape_of q).values ≤ 32) × (length wire.now ≤ 64) × (length wire.now % 2 ≡ 0) × (length bytes.old ≡ 136) }
-    ensures { Holds bytes.new result (onTheWay q count added wire.now) }
+    ensures { Holds bytes.new result (on_the_way q count added wire.now) }
 {
     let s = shape_of(q);
     let first = (s.first % 256) as u8;
@@ -39,7 +39,7 @@ fn lay_hello(first: u8, count: u8, bytes: &mut [u8]) -> usize
 
 fn lay_write(first: u8, q: Question, added: u8, bytes: &mut [u8]) -> usize
     requires { 6 ≤ length bytes.old }
-    ensures { Holds bytes.new result (sealed q added (first ∷ q.reg ∷ lowHigh q.value)) }
+    ensures { Holds bytes.new result (sealed q added (first ∷ q.reg ∷ low_high q.value)) }
 {
     let at = lay_head(first, q.reg, bytes);
     let end = push_value(bytes, at, q.value);
@@ -48,7 +48,7 @@ fn lay_write(first: u8, q: Question, added: u8, bytes: &mut [u8]) -> usize
 
 fn lay_read(first: u8, q: Question, added: u8, wire: &[u8], pairs: usize, bytes: &mut [u8]) -> usize
     requires { length wire.now + 2 * pairs + 5 ≤ length bytes.old }
-    ensures { Holds bytes.new result (sealed q added (first ∷ q.reg ∷ (wire.now ++ (0 ∷ []))) ++ fillPairs pairs) }
+    ensures { Holds bytes.new result (sealed q added (first ∷ q.reg ∷ (wire.now ++ (0 ∷ []))) ++ fill_pairs pairs) }
 {
     let at = lay_head(first, q.reg, bytes);
     let check = push_all(bytes, at, wire);

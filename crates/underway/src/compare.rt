@@ -2,14 +2,14 @@
 ghost use Rattle.std.specs.Prelude.{◌≡◌, ◌+◌, ◌*◌, ◌<◌, length};
 ghost use Rattle.ground.specs.Same.{same};
 ghost use Rattle.lines.specs.Line.{line_of};
-ghost use Rattle.underway.specs.TakeUp.{byteStands};
+ghost use Rattle.underway.specs.TakeUp.{byte_stands};
 
 use characters::{PREAMBLE, STOP, word_of};
 
 // Whether these two words of a line are a byte's.
 fn is_byte(line: &[u16], i: usize, byte: u8) -> bool
     requires { 2 * i + 2 < length line.now }
-    ensures { result ≡ byteStands line.now i byte }
+    ensures { result ≡ byte_stands line.now i byte }
 {
     if line[2 * i + 1] != word_of(byte % 16) {
         return false;

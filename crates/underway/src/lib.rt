@@ -7,11 +7,11 @@ ghost use Rattle.std.specs.Prelude.{◌≡◌, suc, ◌+◌, ◌*◌, ◌%◌, �
 ghost use Rattle.ground.specs.Same.{same};
 ghost use Rattle.lines.specs.Line.{line_of};
 ghost use Rattle.writing.specs.PutLine.{out_of};
-ghost use Rattle.questions.specs.Question.{goodQuestion};
-ghost use Rattle.questions.specs.Bytes.{lowHigh};
-ghost use Rattle.underway.specs.OnTheWay.{onTheWay, wireOf};
+ghost use Rattle.questions.specs.Question.{good_question};
+ghost use Rattle.questions.specs.Bytes.{low_high};
+ghost use Rattle.underway.specs.OnTheWay.{on_the_way, wire_of};
 ghost use Rattle.underway.specs.Lay.{Holds};
-ghost use Rattle.underway.specs.TakeUp.{mayCarry, possible, TakenUp};
+ghost use Rattle.underway.specs.TakeUp.{may_carry, possible, TakenUp};
 
 use command::lay;
 use compare::is_line_of;
@@ -27,7 +27,7 @@ fn buffer() -> [u8; 136]
 
 // Whether m values can stand on the line before a device that has yet to put its own in.
 fn may_carry(q: Question, m: usize) -> bool
-    ensures { result ≡ mayCarry q m }
+    ensures { result ≡ may_carry q m }
 {
     if q.kind <= WRITEDEVICE {
         return m < 1;
@@ -50,8 +50,8 @@ fn is_possible(q: Question, device: u8, m: usize) -> bool
 
 // Whether a line is the question's command as the devices before this one left it.
 fn is_as_left(q: Question, device: u8, wire: &[u8], line: &[u16]) -> bool
-    requires { (goodQuestion q ≡ true) × (length wire.now ≤ 64) × (length wire.now % 2 ≡ 0) }
-    ensures { result ≡ same line.now (line_of (onTheWay q device 0 wire.now)) }
+    requires { (good_question q ≡ true) × (length wire.now ≤ 64) × (length wire.now % 2 ≡ 0) }
+    ensures { result ≡ same line.now (line_of (on_the_way q device 0 wire.now)) }
 {
     let mut bytes = buffer();
     let end = lay(q, device, 0, wire, &mut bytes);
@@ -60,8 +60,8 @@ fn is_as_left(q: Question, device: u8, wire: &[u8], line: &[u16]) -> bool
 
 // The command as this device hands it on, in the line's place.
 fn hand(q: Question, device: u8, wire: &[u8], line: &mut [u16])
-    requires { (goodQuestion q ≡ true) × (length wire.now ≤ 64) × (length wire.now % 2 ≡ 0) × (device < 32) }
-    ensures { line.new ≡ out_of (onTheWay q (suc device) 1 wire.now) line.old }
+    requires { (good_question q ≡ true) × (length wire.now ≤ 64) × (length wire.now % 2 ≡ 0) × (device < 32) }
+    ensures { line.new ≡ out_of (on_the_way q (suc device) 1 wire.now) line.old }
 {
     let mut bytes = buffer();
     let end = lay(q, device + 1, 1, wire, &mut bytes);
@@ -71,7 +71,7 @@ fn hand(q: Question, device: u8, wire: &[u8], line: &mut [u16])
 // The device's own value, then the values that stand on the line.
 fn gather(own: u16, line: &[u16], m: usize, wire: &mut [u8]) -> usize
     requires { (2 * m + 2 ≤ length wire.old) × (m < 32) }
-    ensures { Holds wire.new result (lowHigh own ++ wireOf line.now m) }
+    ensures { Holds wire.new result (low_high own ++ wire_of line.now m) }
 {
     let at = push_value(wire, 0, own);
     push_carried(wire, at, line, 2 * m)

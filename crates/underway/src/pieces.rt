@@ -2,8 +2,8 @@
 // not total, and private here.
 ghost use Rattle.std.specs.Prelude.{◌+◌, ◌*◌, ◌<◌, ◌≤◌, [], ◌∷◌, length};
 ghost use Rattle.ground.specs.Sweep.{tabulated};
-ghost use Rattle.lines.specs.Line.{byteAt};
-ghost use Rattle.questions.specs.Bytes.{lowHigh, fillPairs};
+ghost use Rattle.lines.specs.Line.{byte_at};
+ghost use Rattle.questions.specs.Bytes.{low_high, fill_pairs};
 ghost use Rattle.underway.specs.Lay.{Laid};
 
 use lines::read::byte_at;
@@ -19,7 +19,7 @@ pub(crate) fn push(bytes: &mut [u8], at: usize, byte: u8) -> usize
 // A register's value: low byte, high byte.
 pub(crate) fn push_value(bytes: &mut [u8], at: usize, value: u16) -> usize
     requires { at + 2 ≤ length bytes.old }
-    ensures { Laid bytes.old at (lowHigh value) bytes.new result }
+    ensures { Laid bytes.old at (low_high value) bytes.new result }
 {
     let middle = push(bytes, at, (value % 256) as u8);
     push(bytes, middle, (value / 256) as u8)
@@ -28,7 +28,7 @@ pub(crate) fn push_value(bytes: &mut [u8], at: usize, value: u16) -> usize
 // The value bytes of a line that carries some: directly after the register byte.
 pub(crate) fn push_carried(bytes: &mut [u8], at: usize, line: &[u16], count: usize) -> usize
     requires { at + count ≤ length bytes.old }
-    ensures { Laid bytes.old at (tabulated (byteAt line.now) count 2) bytes.new result }
+    ensures { Laid bytes.old at (tabulated (byte_at line.now) count 2) bytes.new result }
 {
     let mut end = at;
     let mut i = 0;
@@ -62,7 +62,7 @@ fn push_pair(bytes: &mut [u8], at: usize) -> usize
 
 pub(crate) fn push_pairs(bytes: &mut [u8], at: usize, pairs: usize) -> usize
     requires { at + 2 * pairs ≤ length bytes.old }
-    ensures { Laid bytes.old at (fillPairs pairs) bytes.new result }
+    ensures { Laid bytes.old at (fill_pairs pairs) bytes.new result }
 {
     let mut end = at;
     let mut i = 0;

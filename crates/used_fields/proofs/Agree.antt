@@ -1,7 +1,7 @@
 -- Nothing is left open: two answers that meet the function's contract, as its source states it, are the same.
 use mathlib.Core.Path.{sym, ◌∙◌}
 use Rattle.ground.specs.Agree.{Settled}
-use Rattle.used_fields.proofs.are_unused_zero.Reads as are-unused-zero
+use Rattle.used_fields.proofs.are_unused_zero.Reads as are_unused_zero
 
-pub are-unused-zero-settled : Settled are-unused-zero.Post
-are-unused-zero-settled l given r r' left left' p q = p ∙ sym q
+pub are_unused_zero_settled : Settled are_unused_zero.Post
+are_unused_zero_settled l given r r' left left' p q = p ∙ sym q

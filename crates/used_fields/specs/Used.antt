@@ -9,8 +9,8 @@ abbrev pub uses : (register value device seed : Bool) → Uses
 uses register value device seed = record { register = register; value = value; device = device; seed = seed }
 
 -- the fields that each kind uses; the seed only where alive is on
-abbrev pub usesAt : (kind : ℕ) → (on : Bool) → Uses
-usesAt kind on =
+abbrev pub uses_at : (kind : ℕ) → (on : Bool) → Uses
+uses_at kind on =
     by_kind kind
     (uses false false false false)
     (uses true true false on)
@@ -18,10 +18,10 @@ usesAt kind on =
     (uses true false false on)
     (uses true false true on)
 
-unfoldable pub usesOf : Question → Uses
-usesOf q = usesAt q.kind (eqb q.alive 1)
+unfoldable pub uses_of : Question → Uses
+uses_of q = uses_at q.kind (eqb q.alive 1)
 
-unfoldable pub unusedAreZero : Question → Bool
-unusedAreZero q =
-    ((usesOf q).register || eqb q.reg 0) && ((usesOf q).value || eqb q.value 0)
-    && ((usesOf q).device || eqb q.device 0) && ((usesOf q).seed || eqb q.seed 0)
+unfoldable pub unused_are_zero : Question → Bool
+unused_are_zero q =
+    ((uses_of q).register || eqb q.reg 0) && ((uses_of q).value || eqb q.value 0)
+    && ((uses_of q).device || eqb q.device 0) && ((uses_of q).seed || eqb q.seed 0)

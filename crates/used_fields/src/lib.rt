@@ -1,6 +1,6 @@
 // The fields that each kind of question uses; the others are zero (document 01, "Job file and certificate").
 ghost use Rattle.std.specs.Prelude.{◌≡◌, ◌||◌, eqb};
-ghost use Rattle.used_fields.specs.Used.{usesOf, unusedAreZero};
+ghost use Rattle.used_fields.specs.Used.{uses_of, unused_are_zero};
 
 use questions::question::{HELLOALL, Question, READALL, WRITEALL, WRITEDEVICE};
 
@@ -15,7 +15,7 @@ pub struct Uses {
 
 // Whether every field that its kind does not use is 0.
 pub fn are_unused_zero(q: Question) -> bool
-    ensures { result ≡ unusedAreZero q }
+    ensures { result ≡ unused_are_zero q }
 {
     let uses = uses_of(q);
     if !is_used_or_zero(uses.register, q.reg as u16) {
@@ -40,7 +40,7 @@ fn is_used_or_zero(used: bool, field: u16) -> bool
 }
 
 fn uses_of(q: Question) -> Uses
-    ensures { result ≡ usesOf q }
+    ensures { result ≡ uses_of q }
 {
     let kind = q.kind;
     let seed = q.alive == 1;

@@ -2,11 +2,11 @@
 -- calls leave in lent memory.
 use mathlib.Core.Path.{sym, ◌∙◌}
 use Rattle.ground.specs.Agree.{Settled, SettledIn}
-use Rattle.writing.proofs.put_line.Reads as put-line
+use Rattle.writing.proofs.put_line.Reads as put_line
 
-pub put-line-settled : Settled put-line.Post
-put-line-settled l given r r' left left' p q = p.says ∙ sym q.says
+pub put_line_settled : Settled put_line.Post
+put_line_settled l given r r' left left' p q = p.says ∙ sym q.says
 
 -- the lent words
-pub put-line-settled-out : SettledIn (λ l left. left.1.0.now) put-line.Post
-put-line-settled-out l given r r' left left' p q = p.leaves ∙ sym q.leaves
+pub put_line_settled_out : SettledIn (λ l left. left.1.0.now) put_line.Post
+put_line_settled_out l given r r' left left' p q = p.leaves ∙ sym q.leaves

@@ -1,6 +1,6 @@
 // A line written from bytes into lent words (document 01, "The line").
 ghost use Rattle.std.specs.Prelude.{◌≡◌, ◌+◌, ◌*◌, ◌<◌, length};
-ghost use Rattle.writing.specs.PutLine.{LinePut, withByte};
+ghost use Rattle.writing.specs.PutLine.{LinePut, with_byte};
 
 use characters::{PREAMBLE, STOP, word_of};
 
@@ -14,7 +14,7 @@ pub enum Put {
 // Byte i of a line goes out as two characters, low nibble first.
 fn put_byte(out: &mut [u16], i: usize, byte: u8)
     requires { 2 * i + 2 < length out.old }
-    ensures { out.new ≡ withByte out.old i byte }
+    ensures { out.new ≡ with_byte out.old i byte }
 {
     out[2 * i + 1] = word_of(byte % 16);
     out[2 * i + 2] = word_of(byte / 16);

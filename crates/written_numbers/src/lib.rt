@@ -1,8 +1,8 @@
 // Document 01's number of an answer where a text or a file was to be written: a certificate printed, a job file certified, one rehearsed.
 ghost use Rattle.std.specs.Prelude.{◌≡◌};
-ghost use Rattle.printing.specs.Print.{printedNumber};
-ghost use Rattle.certificate.specs.Certificate.{certifiedNumber};
-ghost use Rattle.rehearsal.specs.Rehearsal.{rehearsedNumber};
+ghost use Rattle.printing.specs.Print.{printed_number};
+ghost use Rattle.certificate.specs.Certificate.{certified_number};
+ghost use Rattle.rehearsal.specs.Rehearsal.{rehearsed_number};
 
 use certificate::Certified;
 use printing::Printed;
@@ -10,7 +10,7 @@ use rehearsal::Rehearsed;
 
 // Document 01's number of an answer: 0 where the text was written.
 pub fn printed_number(printed: Printed) -> u8
-    ensures { result ≡ printedNumber printed }
+    ensures { result ≡ printed_number printed }
 {
     match printed {
         Printed::Bytes(_) => 0,
@@ -21,7 +21,7 @@ pub fn printed_number(printed: Printed) -> u8
 
 // Document 01's number of an answer: 0 where the certificate was written.
 pub fn certified_number(certified: Certified) -> u8
-    ensures { result ≡ certifiedNumber certified }
+    ensures { result ≡ certified_number certified }
 {
     match certified {
         Certified::Bytes(_) => 0,
@@ -32,7 +32,7 @@ pub fn certified_number(certified: Certified) -> u8
 
 // Document 01's number of an answer: 0 where the file was written.
 pub fn rehearsed_number(rehearsed: Rehearsed) -> u8
-    ensures { result ≡ rehearsedNumber rehearsed }
+    ensures { result ≡ rehearsed_number rehearsed }
 {
     match rehearsed {
         Rehearsed::Bytes(_) => 0,

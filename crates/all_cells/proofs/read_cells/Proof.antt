@@ -6,7 +6,7 @@ use native.Mathlib.Numerals.{add-one}
 use native.Mathlib.Omega.{arith}
 use lib.ListN.{length, take, drop, set, get_or, length-set}
 use lib.Seq.{take-suc-set, take_all, drop-cons, drop-length}
-use Rattle.cells.specs.Cell.{cell_of, cellsFrom, cells_of}
+use Rattle.cells.specs.Cell.{cell_of, cells_from, cells_of}
 use Rattle.cells.specs.declared.Cell.{Cell}
 use Rattle.cells.specs.declared.Range.{Range}
 use Rattle.cells.specs.declared.Register.{Register}
@@ -14,25 +14,25 @@ use Rattle.all_cells.proofs.read_cells.Statement.{statement}
 use Rattle.all_cells.proofs.read_cells.Tie as tie
 
 -- what is to come after i cells
-abbrev toCome : Range → ℕ → List Register → ℕ → List Cell
-toCome range mask registers i = cellsFrom range mask (i + 1) (drop i registers)
+abbrev to_come : Range → ℕ → List Register → ℕ → List Cell
+to_come range mask registers i = cells_from range mask (i + 1) (drop i registers)
 
 module _ (range : Range) (mask : ℕ) (registers : List Register) (cells : List Cell) (i : ℕ) where
   -- one register more is read
   next : (cell : Cell) (nothing : Register) → i < length registers → i < length cells → cell ≡ cell_of range mask (i + 1) (get_or registers i nothing).0
-      → take (i + 1) (set cells i cell) ++ toCome range mask registers (i + 1) ≡ take i cells ++ toCome range mask registers i
+      → take (i + 1) (set cells i cell) ++ to_come range mask registers (i + 1) ≡ take i cells ++ to_come range mask registers i
   next cell nothing h k is =
       rw (drop-cons registers i nothing)
-      (ap (λ (n : ℕ). take n (set cells i cell) ++ cellsFrom range mask (i + 1 + 1) (drop n registers)) (add-one i)
+      (ap (λ (n : ℕ). take n (set cells i cell) ++ cells_from range mask (i + 1 + 1) (drop n registers)) (add-one i)
       ∙ rw (take-suc-set cells i cell k, append_assoc, is) refl)
 
   -- every register is read
-  all_read : i ≡ length registers → length cells ≡ i → cells ≡ take i cells ++ toCome range mask registers i
+  all_read : i ≡ length registers → length cells ≡ i → cells ≡ take i cells ++ to_come range mask registers i
   all_read all same = rw (all, drop-length registers, append-nil, take_all (length registers) cells (omega arith))
 
 abbrev invariant-loop : tie.invariant-loop
 invariant-loop range mask registers cells₀ i₀ cells i =
-    (i ≤ 12) × (take i cells ++ toCome range mask registers i ≡ cells_of range mask registers) × (length cells ≡ 12)
+    (i ≤ 12) × (take i cells ++ to_come range mask registers i ≡ cells_of range mask registers) × (length cells ≡ 12)
 
 abbrev decreases-loop : tie.decreases-loop
 decreases-loop range mask registers cells₀ i₀ cells i = 12 - i
@@ -88,8 +88,8 @@ returns c =
     let all : at.i ≡ length start.args.t3 = omega arith in
     all_read start.args.range start.args.mask start.args.t3 at.cells at.i all (omega arith) ∙ at.invariant.1
 
-pub read-cells-spec : {M : Type 1} → statement M
-read-cells-spec =
+pub read_cells_spec : {M : Type 1} → statement M
+read_cells_spec =
     tie.close
     (tie.spec
     invariant-loop

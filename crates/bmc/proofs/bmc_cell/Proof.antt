@@ -3,5 +3,5 @@ use borrow.Author.Rules.{rules}
 use Rattle.bmc.proofs.bmc_cell.Statement.{statement}
 use Rattle.bmc.proofs.bmc_cell.Tie as tie
 
-pub bmc-cell-spec : {M : Type 1} → statement M
-bmc-cell-spec = tie.close (tie.spec (λ c κs. search rules) (λ c. search rules))
+pub bmc_cell_spec : {M : Type 1} → statement M
+bmc_cell_spec = tie.close (tie.spec (λ c κs. search rules) (λ c. search rules))

@@ -3,5 +3,5 @@ use borrow.Author.Rules.{rules}
 use Rattle.bmc.proofs.bmc_cells.Statement.{statement}
 use Rattle.bmc.proofs.bmc_cells.Tie as tie
 
-pub bmc-cells-spec : {M : Type 1} → statement M
-bmc-cells-spec = tie.close (tie.spec (λ c κs. search rules) (λ c. search rules) (λ c. search rules) (λ c. search rules) (λ c. search rules))
+pub bmc_cells_spec : {M : Type 1} → statement M
+bmc_cells_spec = tie.close (tie.spec (λ c κs. search rules) (λ c. search rules) (λ c. search rules) (λ c. search rules) (λ c. search rules))

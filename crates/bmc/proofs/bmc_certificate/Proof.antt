@@ -1,6 +1,6 @@
 -- `bmc_certificate` meets its contract: it is `certify`, its answer packed.
 use mathlib.Core.Path.{ap, ◌∙◌}
-use Rattle.bmc.specs.Exports.{packedCertified}
+use Rattle.bmc.specs.Exports.{packed_certified}
 use Rattle.bmc.proofs.FewBytes.{few_bytes}
 use borrow.Author.Rules.{rules}
 use Rattle.bmc.proofs.bmc_certificate.Statement.{statement}
@@ -16,8 +16,8 @@ same_length : tie.Need-same-length
 same_length c = search rules
 
 returns : tie.Need-returns
-returns c = record { says = c.packed-certified.ensures ∙ ap packedCertified c.before.before.before.certify.ensures.says; leaves = c.before.before.before.certify.ensures.leaves }
+returns c = record { says = c.packed-certified.ensures ∙ ap packed_certified c.before.before.before.certify.ensures.says; leaves = c.before.before.before.certify.ensures.leaves }
 
-pub bmc-certificate-spec : {M : Type 1} → statement M
-bmc-certificate-spec =
+pub bmc_certificate_spec : {M : Type 1} → statement M
+bmc_certificate_spec =
     tie.close (tie.spec certify-requires packed-certified-requires same_length returns)

@@ -18,8 +18,8 @@ same_length c = search rules
 returns : tie.Need-returns
 returns c =
     let a = c.before.before.before.before.before.before.args in
-    subst (λ (q : Question). CommandBytesDone q a.out.now c.before.before.command-bytes.new.1.0 c.before.before.command-bytes.result) c.before.before.before.before.ask.ensures c.before.before.command-bytes.ensures
+    subst (λ (q : Question). CommandBytesDone q a.out.now c.before.before.command_bytes.new.1.0 c.before.before.command_bytes.result) c.before.before.before.before.ask.ensures c.before.before.command_bytes.ensures
 
-pub bmc-command-spec : {M : Type 1} → statement M
-bmc-command-spec =
+pub bmc_command_spec : {M : Type 1} → statement M
+bmc_command_spec =
     tie.close (tie.spec ask-requires command-bytes-requires same_length returns)

@@ -1,7 +1,7 @@
 -- `bmc_explain` meets its contract: it is `explain_packed` of the seven numbers' question.
 use mathlib.Core.Path.{ap, ◌∙◌}
 use Rattle.questions.specs.declared.question.Question.{Question}
-use Rattle.c_reasons.specs.Explain.{packedOn}
+use Rattle.c_reasons.specs.Explain.{packed_on}
 use borrow.Author.Rules.{rules}
 use Rattle.bmc.proofs.bmc_explain.Statement.{statement}
 use Rattle.bmc.proofs.bmc_explain.Tie as tie
@@ -15,7 +15,7 @@ explain-packed-requires c κs = search rules
 returns : tie.Need-returns
 returns c =
     let a = c.before.before.before.args in
-    c.explain-packed.ensures ∙ ap (λ (q : Question). packedOn q a.line.now) c.before.ask.ensures
+    c.explain_packed.ensures ∙ ap (λ (q : Question). packed_on q a.line.now) c.before.ask.ensures
 
-pub bmc-explain-spec : {M : Type 1} → statement M
-bmc-explain-spec = tie.close (tie.spec ask-requires explain-packed-requires returns)
+pub bmc_explain_spec : {M : Type 1} → statement M
+bmc_explain_spec = tie.close (tie.spec ask-requires explain-packed-requires returns)

@@ -3,5 +3,5 @@ use borrow.Author.Rules.{rules}
 use Rattle.bmc.proofs.bmc_pec.Statement.{statement}
 use Rattle.bmc.proofs.bmc_pec.Tie as tie
 
-pub bmc-pec-spec : {M : Type 1} → statement M
-bmc-pec-spec = tie.close (tie.spec (λ c κs. search rules) (λ c. search rules) (λ c. search rules))
+pub bmc_pec_spec : {M : Type 1} → statement M
+bmc_pec_spec = tie.close (tie.spec (λ c κs. search rules) (λ c. search rules) (λ c. search rules))

@@ -18,7 +18,7 @@ same_length c = search rules
 returns : tie.Need-returns
 returns c =
     let a = c.before.before.before.before.before.before.before.args in
-    subst (λ (q : Question). ReadBytesDone q a.line.now a.out.now c.before.before.read-bytes.new.1.1.0 c.before.before.read-bytes.result) c.before.before.before.before.ask.ensures c.before.before.read-bytes.ensures
+    subst (λ (q : Question). ReadBytesDone q a.line.now a.out.now c.before.before.read_bytes.new.1.1.0 c.before.before.read_bytes.result) c.before.before.before.before.ask.ensures c.before.before.read_bytes.ensures
 
-pub bmc-read-spec : {M : Type 1} → statement M
-bmc-read-spec = tie.close (tie.spec ask-requires read-bytes-requires same_length returns)
+pub bmc_read_spec : {M : Type 1} → statement M
+bmc_read_spec = tie.close (tie.spec ask-requires read-bytes-requires same_length returns)

@@ -3,5 +3,5 @@ use borrow.Author.Rules.{rules}
 use Rattle.bmc.proofs.bmc_twin_power_on.Statement.{statement}
 use Rattle.bmc.proofs.bmc_twin_power_on.Tie as tie
 
-pub bmc-twin-power-on-spec : {M : Type 1} → statement M
-bmc-twin-power-on-spec = tie.close (tie.spec (λ c κs. search rules) (λ c. search rules) (λ c. search rules))
+pub bmc_twin_power_on_spec : {M : Type 1} → statement M
+bmc_twin_power_on_spec = tie.close (tie.spec (λ c κs. search rules) (λ c. search rules) (λ c. search rules))

@@ -3,5 +3,5 @@ use borrow.Author.Rules.{rules}
 use Rattle.bmc.proofs.bmc_twin_run.Statement.{statement}
 use Rattle.bmc.proofs.bmc_twin_run.Tie as tie
 
-pub bmc-twin-run-spec : {M : Type 1} → statement M
-bmc-twin-run-spec = tie.close (tie.spec (λ c κs. search rules) (λ c. search rules) (λ c. search rules) (λ c. search rules))
+pub bmc_twin_run_spec : {M : Type 1} → statement M
+bmc_twin_run_spec = tie.close (tie.spec (λ c κs. search rules) (λ c. search rules) (λ c. search rules) (λ c. search rules))

@@ -3,5 +3,5 @@ use borrow.Author.Rules.{rules}
 use Rattle.bmc.proofs.bmc_twin_step.Statement.{statement}
 use Rattle.bmc.proofs.bmc_twin_step.Tie as tie
 
-pub bmc-twin-step-spec : {M : Type 1} → statement M
-bmc-twin-step-spec = tie.close (tie.spec (λ c κs. search rules) (λ c. search rules) (λ c. search rules) (λ c. search rules))
+pub bmc_twin_step_spec : {M : Type 1} → statement M
+bmc_twin_step_spec = tie.close (tie.spec (λ c κs. search rules) (λ c. search rules) (λ c. search rules) (λ c. search rules))

@@ -2,9 +2,9 @@
 use mathlib.Core.Path.{sym, ap, subst}
 use Prim.Native.Nat.{◌≤◌}
 use native.Mathlib.Omega.{arith}
-use Rattle.certificate.specs.Certificate.{mostText}
+use Rattle.certificate.specs.Certificate.{most_text}
 use Rattle.certificate.specs.declared.Certified.{Certified}
-use Rattle.bmc.specs.Exports.{bytesWritten, packedCertified}
+use Rattle.bmc.specs.Exports.{bytes_written, packed_certified}
 use borrow.Author.Rules.{rules}
 use Rattle.bmc.proofs.packed_certified.Statement.{statement}
 use Rattle.bmc.proofs.packed_certified.Tie as tie
@@ -13,10 +13,10 @@ enum-known-certified : tie.Need-enum-known-certified
 enum-known-certified c = search rules
 
 cast-result : tie.Need-overflow-cast-result
-cast-result c = omega (arith, subst (λ (x : Certified). bytesWritten x ≤ mostText) c.before.certified.given.1 c.before.before.before.requires)
+cast-result c = omega (arith, subst (λ (x : Certified). bytes_written x ≤ most_text) c.before.certified.given.1 c.before.before.before.requires)
 
 mul-result : tie.Need-overflow-mul-result
-mul-result c = omega (arith, subst (λ (x : Certified). bytesWritten x ≤ mostText) c.before.certified.given.1 c.before.before.before.requires)
+mul-result c = omega (arith, subst (λ (x : Certified). bytes_written x ≤ most_text) c.before.certified.given.1 c.before.before.before.requires)
 
 enum_told : tie.Need-enum-told
 enum_told c = search rules
@@ -25,16 +25,16 @@ enum-told-2 : tie.Need-enum-told-2
 enum-told-2 c = search rules
 
 returns : tie.Need-returns
-returns c = omega (arith, ap packedCertified c.before.certified.given.1)
+returns c = omega (arith, ap packed_certified c.before.certified.given.1)
 
 returns-2 : tie.Need-returns-2
-returns-2 c = sym (ap packedCertified c.enum_told.given.1)
+returns-2 c = sym (ap packed_certified c.enum_told.given.1)
 
 returns-3 : tie.Need-returns-3
-returns-3 c = sym (ap packedCertified c.enum-told2.given.1)
+returns-3 c = sym (ap packed_certified c.enum-told2.given.1)
 
-pub packed-certified-spec : {M : Type 1} → statement M
-packed-certified-spec =
+pub packed_certified_spec : {M : Type 1} → statement M
+packed_certified_spec =
     tie.close
     (tie.spec
     enum-known-certified

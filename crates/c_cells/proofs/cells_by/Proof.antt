@@ -4,37 +4,37 @@ use mathlib.Core.List.{List}
 use borrow.Author.Rules.{rules}
 use Rattle.cells.specs.Cell.{cells_of}
 use Rattle.cells.specs.declared.Cell.{Cell}
-use Rattle.c_cells.specs.CellBytes.{microvoltsOr, voltsOr}
-use Rattle.c_cells.specs.CellsBytes.{registersOf, roomNumber, packedOr, byCell}
-use Rattle.c_cells.proofs.Numbered.{turned-away, all-given, short-microvolts, short-volts, short-answers, other_length, room-and-length}
+use Rattle.c_cells.specs.CellBytes.{microvolts_or, volts_or}
+use Rattle.c_cells.specs.CellsBytes.{registers_of, room_number, packed_or, by_cell}
+use Rattle.c_cells.proofs.Numbered.{turned_away, all_given, short_microvolts, short_volts, short_answers, other_length, room_and_length}
 use Rattle.c_cells.proofs.cells_by.Statement.{statement}
 use Rattle.c_cells.proofs.cells_by.Tie as tie
 
 returns : tie.Need-returns
 returns c =
     let a = c.before.before.before.before.args in
-    turned-away (roomNumber a.registers.now a.microvolts.now a.volts.now a.answers.now) (cells_of a.range a.enabled (registersOf a.registers.now))
+    turned_away (room_number a.registers.now a.microvolts.now a.volts.now a.answers.now) (cells_of a.range a.enabled (registers_of a.registers.now))
     a.microvolts.now a.volts.now a.answers.now 1
-    (short-microvolts a.registers.now a.microvolts.now a.volts.now a.answers.now c.if1.true)
+    (short_microvolts a.registers.now a.microvolts.now a.volts.now a.answers.now c.if1.true)
 
 returns-2 : tie.Need-returns-2
 returns-2 c =
     let a = c.before.before.before.before.before.args in
-    turned-away (roomNumber a.registers.now a.microvolts.now a.volts.now a.answers.now) (cells_of a.range a.enabled (registersOf a.registers.now))
+    turned_away (room_number a.registers.now a.microvolts.now a.volts.now a.answers.now) (cells_of a.range a.enabled (registers_of a.registers.now))
     a.microvolts.now a.volts.now a.answers.now 1
-    (short-volts a.registers.now a.microvolts.now a.volts.now a.answers.now c.before.if1.false c.if2.true)
+    (short_volts a.registers.now a.microvolts.now a.volts.now a.answers.now c.before.if1.false c.if2.true)
 
 returns-3 : tie.Need-returns-3
 returns-3 c =
     let a = c.before.before.before.before.before.before.args in
-    turned-away (roomNumber a.registers.now a.microvolts.now a.volts.now a.answers.now) (cells_of a.range a.enabled (registersOf a.registers.now))
+    turned_away (room_number a.registers.now a.microvolts.now a.volts.now a.answers.now) (cells_of a.range a.enabled (registers_of a.registers.now))
     a.microvolts.now a.volts.now a.answers.now 1
-    (short-answers a.registers.now a.microvolts.now a.volts.now a.answers.now c.before.before.if1.false c.before.if2.false c.if3.true)
+    (short_answers a.registers.now a.microvolts.now a.volts.now a.answers.now c.before.before.if1.false c.before.if2.false c.if3.true)
 
 returns-4 : tie.Need-returns-4
 returns-4 c =
     let a = c.before.before.before.before.before.before.before.args in
-    turned-away (roomNumber a.registers.now a.microvolts.now a.volts.now a.answers.now) (cells_of a.range a.enabled (registersOf a.registers.now))
+    turned_away (room_number a.registers.now a.microvolts.now a.volts.now a.answers.now) (cells_of a.range a.enabled (registers_of a.registers.now))
     a.microvolts.now a.volts.now a.answers.now 2
     (other_length a.registers.now a.microvolts.now a.volts.now a.answers.now c.before.before.before.if1.false c.before.before.if2.false c.before.if3.false c.if4.true)
 
@@ -61,16 +61,16 @@ returns-5 c =
     let given = c.before.before.before.before.before in
     let read = given.before.before.before.before in
     let a = c.before.before.before.before.before.before.before.before.before.before.before.before.before.before.before.before.before.before.args in
-    let cells = read.read-cells.ensures ∙ ap (cells_of a.range a.enabled) read.before.registers-in.ensures in
-    all-given (roomNumber a.registers.now a.microvolts.now a.volts.now a.answers.now) (cells_of a.range a.enabled (registersOf a.registers.now))
+    let cells = read.read_cells.ensures ∙ ap (cells_of a.range a.enabled) read.before.registers-in.ensures in
+    all_given (room_number a.registers.now a.microvolts.now a.volts.now a.answers.now) (cells_of a.range a.enabled (registers_of a.registers.now))
     a.microvolts.now a.volts.now a.answers.now _ _ _
-    (room-and-length a.registers.now a.microvolts.now a.volts.now a.answers.now c.before.before.before.before.before.before.before.before.before.before.before.before.before.before.if1.false c.before.before.before.before.before.before.before.before.before.before.before.before.before.if2.false c.before.before.before.before.before.before.before.before.before.before.before.before.if3.false c.before.before.before.before.before.before.before.before.before.before.before.if4.false)
-    (given.give_all.ensures.0 ∙ ap (λ (l : List Cell). byCell microvoltsOr l a.microvolts.now) cells)
-    (given.give_all.ensures.1 ∙ ap (λ (l : List Cell). byCell voltsOr l a.volts.now) cells)
-    (given.give_all.ensures.2 ∙ ap (λ (l : List Cell). byCell packedOr l a.answers.now) cells)
+    (room_and_length a.registers.now a.microvolts.now a.volts.now a.answers.now c.before.before.before.before.before.before.before.before.before.before.before.before.before.before.if1.false c.before.before.before.before.before.before.before.before.before.before.before.before.before.if2.false c.before.before.before.before.before.before.before.before.before.before.before.before.if3.false c.before.before.before.before.before.before.before.before.before.before.before.if4.false)
+    (given.give_all.ensures.0 ∙ ap (λ (l : List Cell). by_cell microvolts_or l a.microvolts.now) cells)
+    (given.give_all.ensures.1 ∙ ap (λ (l : List Cell). by_cell volts_or l a.volts.now) cells)
+    (given.give_all.ensures.2 ∙ ap (λ (l : List Cell). by_cell packed_or l a.answers.now) cells)
 
-pub cells-by-spec : {M : Type 1} → statement M
-cells-by-spec =
+pub cells_by_spec : {M : Type 1} → statement M
+cells_by_spec =
     tie.close
     (tie.spec
     returns

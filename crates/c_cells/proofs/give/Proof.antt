@@ -3,7 +3,7 @@ use mathlib.Core.Path.{sym, ap, ◌∙◌}
 use mir.Facts.{to_z-of_z}
 use borrow.Author.Rules.{rules, sfits_of}
 use Rattle.cells.specs.declared.Cell.{Cell}
-use Rattle.c_cells.specs.CellBytes.{packedCell, microvoltsOr, voltsOr}
+use Rattle.c_cells.specs.CellBytes.{packed_cell, microvolts_or, volts_or}
 use Rattle.c_cells.proofs.give.Statement.{statement}
 use Rattle.c_cells.proofs.give.Tie as tie
 
@@ -27,9 +27,9 @@ returns c =
     let a = c.before.before.before.before.args in
     let is = c.before.before.answer.given.1 in
     record {
-      says = ap packedCell (sym is);
-      microvolts = to_z-of_z (sfits_of c.struct_told.given.0.1) ∙ ap (λ (answer : Cell). microvoltsOr answer a.microvolts.now) (sym is);
-      volts = ap (λ (answer : Cell). voltsOr answer a.volts.now) (sym is);
+      says = ap packed_cell (sym is);
+      microvolts = to_z-of_z (sfits_of c.struct_told.given.0.1) ∙ ap (λ (answer : Cell). microvolts_or answer a.microvolts.now) (sym is);
+      volts = ap (λ (answer : Cell). volts_or answer a.volts.now) (sym is);
     }
 
 returns-2 : tie.Need-returns-2

@@ -3,16 +3,16 @@ use mathlib.Core.Path.{◌≡◌, refl, ◌∙◌}
 use Prim.Native.Nat.{◌-◌, ◌≤◌}
 use native.Mathlib.Omega.{arith}
 use lib.ListN.{length, take, length-set}
-use Rattle.c_cells.specs.CellBytes.{microvoltsOr, voltsOr}
-use Rattle.c_cells.specs.CellsBytes.{packedOr, byCell}
+use Rattle.c_cells.specs.CellBytes.{microvolts_or, volts_or}
+use Rattle.c_cells.specs.CellsBytes.{packed_or, by_cell}
 use Rattle.c_cells.proofs.ByCell.{one_more, all_done}
 use Rattle.c_cells.proofs.give_all.Statement.{statement}
 use Rattle.c_cells.proofs.give_all.Tie as tie
 
 abbrev invariant-loop : tie.invariant-loop
 invariant-loop microvolts₀ volts₀ answers₀ cells k₀ microvolts volts answers k =
-    (k ≤ 12) × (microvolts ≡ byCell microvoltsOr (take k cells) microvolts₀) × (volts ≡ byCell voltsOr (take k cells) volts₀)
-    × (answers ≡ byCell packedOr (take k cells) answers₀)
+    (k ≤ 12) × (microvolts ≡ by_cell microvolts_or (take k cells) microvolts₀) × (volts ≡ by_cell volts_or (take k cells) volts₀)
+    × (answers ≡ by_cell packed_or (take k cells) answers₀)
     × (length microvolts ≡ length microvolts₀) × (length volts ≡ length volts₀) × (length answers ≡ length answers₀)
 
 abbrev decreases-loop : tie.decreases-loop
@@ -61,9 +61,9 @@ loop-again c =
     let at = c.before.before.before.before.before.loop in
     let twelve : length a.t1 ≡ 12 = omega (arith, start.well-formed) in (
       omega arith,
-      one_more microvoltsOr a.t1 a.microvolts.now at.k at.microvolts at.invariant.1 _ _ _ (omega arith) (omega arith) c.give.ensures.microvolts,
-      one_more voltsOr a.t1 a.volts.now at.k at.volts at.invariant.2 _ _ _ (omega arith) (omega arith) c.give.ensures.volts,
-      one_more packedOr a.t1 a.answers.now at.k at.answers at.invariant.3 _ 0 _ (omega arith) (omega arith) c.give.ensures.says,
+      one_more microvolts_or a.t1 a.microvolts.now at.k at.microvolts at.invariant.1 _ _ _ (omega arith) (omega arith) c.give.ensures.microvolts,
+      one_more volts_or a.t1 a.volts.now at.k at.volts at.invariant.2 _ _ _ (omega arith) (omega arith) c.give.ensures.volts,
+      one_more packed_or a.t1 a.answers.now at.k at.answers at.invariant.3 _ 0 _ (omega arith) (omega arith) c.give.ensures.says,
       length-set at.microvolts at.k _ ∙ at.invariant.4,
       length-set at.volts at.k _ ∙ at.invariant.5,
       length-set at.answers at.k _ ∙ at.invariant.6,
@@ -84,13 +84,13 @@ returns c =
     let a = start.args in
     let at = c.before.loop in
     let twelve : length a.t1 ≡ at.k = omega (arith, start.well-formed) in (
-      all_done microvoltsOr a.t1 a.microvolts.now at.k at.microvolts at.invariant.1 twelve,
-      all_done voltsOr a.t1 a.volts.now at.k at.volts at.invariant.2 twelve,
-      all_done packedOr a.t1 a.answers.now at.k at.answers at.invariant.3 twelve,
+      all_done microvolts_or a.t1 a.microvolts.now at.k at.microvolts at.invariant.1 twelve,
+      all_done volts_or a.t1 a.volts.now at.k at.volts at.invariant.2 twelve,
+      all_done packed_or a.t1 a.answers.now at.k at.answers at.invariant.3 twelve,
     )
 
-pub give-all-spec : {M : Type 1} → statement M
-give-all-spec =
+pub give_all_spec : {M : Type 1} → statement M
+give_all_spec =
     tie.close
     (tie.spec
     invariant-loop

@@ -8,18 +8,18 @@ use lib.ListN.{length, take, drop, set, get_or, length-set}
 use lib.Seq.{take-suc-set, take_all, drop-cons, drop-length}
 use Rattle.packing.specs.Words.{words_of}
 use Rattle.cells.specs.declared.Register.{Register}
-use Rattle.c_cells.specs.CellsBytes.{register, registersOf}
+use Rattle.c_cells.specs.CellsBytes.{register, registers_of}
 use Rattle.c_cells.proofs.registers_in.Statement.{statement}
 use Rattle.c_cells.proofs.registers_in.Tie as tie
 
 module _ (bytes : List ℕ) (registers : List Register) (k : ℕ) where
   -- one register more is taken
   next : (word : ℕ) → 2 * k + 1 < length bytes → k < length registers → word ≡ get_or bytes (2 * k) 0 + 256 * get_or bytes (2 * k + 1) 0
-      → take (k + 1) (set registers k (register word)) ++ registersOf (drop (2 * (k + 1)) bytes) ≡ take k registers ++ registersOf (drop (2 * k) bytes)
-  unfolding words_of registersOf
+      → take (k + 1) (set registers k (register word)) ++ registers_of (drop (2 * (k + 1)) bytes) ≡ take k registers ++ registers_of (drop (2 * k) bytes)
+  unfolding words_of registers_of
   next word h i is =
       rw two_bytes
-      (ap (λ (n : ℕ). take n (set registers k (register word)) ++ registersOf (drop (2 * (k + 1)) bytes)) (add-one k)
+      (ap (λ (n : ℕ). take n (set registers k (register word)) ++ registers_of (drop (2 * (k + 1)) bytes)) (add-one k)
       ∙ rw (take-suc-set registers k (register word) i, append_assoc, is) refl)
     where
       two_bytes : drop (2 * k) bytes ≡ get_or bytes (2 * k) 0 ∷ get_or bytes (2 * k + 1) 0 ∷ drop (2 * (k + 1)) bytes
@@ -32,13 +32,13 @@ module _ (bytes : List ℕ) (registers : List Register) (k : ℕ) where
           both : suc (2 * k + 1) ≡ 2 * (k + 1)
           both = omega arith
 
-  all-taken : 2 * k ≡ length bytes → length registers ≡ k → registers ≡ take k registers ++ registersOf (drop (2 * k) bytes)
-  unfolding words_of registersOf
-  all-taken e same = rw (e, drop-length bytes, append-nil, take_all k registers (omega arith))
+  all_taken : 2 * k ≡ length bytes → length registers ≡ k → registers ≡ take k registers ++ registers_of (drop (2 * k) bytes)
+  unfolding words_of registers_of
+  all_taken e same = rw (e, drop-length bytes, append-nil, take_all k registers (omega arith))
 
 abbrev invariant-loop : tie.invariant-loop
 invariant-loop bytes registers₀ k₀ registers k =
-    (k ≤ 12) × (take k registers ++ registersOf (drop (2 * k) bytes) ≡ registersOf bytes) × (length registers ≡ 12)
+    (k ≤ 12) × (take k registers ++ registers_of (drop (2 * k) bytes) ≡ registers_of bytes) × (length registers ≡ 12)
 
 abbrev decreases-loop : tie.decreases-loop
 decreases-loop bytes registers₀ k₀ registers k = 12 - k
@@ -89,10 +89,10 @@ returns : tie.Need-returns invariant-loop decreases-loop
 returns c =
     let a = c.before.before.before.args in
     let at = c.before.loop in
-    all-taken a.bytes.now at.registers at.k (omega arith) (omega arith) ∙ at.invariant.1
+    all_taken a.bytes.now at.registers at.k (omega arith) (omega arith) ∙ at.invariant.1
 
-pub registers-in-spec : {M : Type 1} → statement M
-registers-in-spec =
+pub registers_in_spec : {M : Type 1} → statement M
+registers_in_spec =
     tie.close
     (tie.spec
     invariant-loop

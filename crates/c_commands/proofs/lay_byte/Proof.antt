@@ -3,7 +3,7 @@ use mathlib.Core.Path.{ap, ap₂, ◌∙◌}
 use mathlib.Core.List.{List, [], ◌∷◌}
 use Prim.Native.Nat.{ℕ, ◌+◌, ◌/◌}
 use Rattle.c_commands.specs.CommandBytes.{laid}
-use Rattle.c_commands.proofs.Laid.{laid-byte}
+use Rattle.c_commands.proofs.Laid.{laid_byte}
 use Rattle.c_commands.proofs.TwoWords.{halves}
 use borrow.Author.Rules.{rules}
 use Rattle.c_commands.proofs.lay_byte.Statement.{statement}
@@ -33,15 +33,15 @@ same_length c = search rules
 returns : tie.Need-returns
 returns c =
     let a = c.before.before.before.before.before.before.before.before.before.before.args in
-    let both = c.before.before.before.before.before.before.before.before.two-words in
+    let both = c.before.before.before.before.before.before.before.before.two_words in
     let words = halves a.byte both.result both.ensures in
     c.before.before.lay-word2.ensures
     ∙ ap (λ (l : List ℕ). laid l (a.at + 2) (both.result / 65536 ∷ [])) c.before.before.before.before.before.before.lay-word.ensures
     ∙ ap₂ (λ (x y : ℕ). laid (laid a.out.now a.at (x ∷ [])) (a.at + 2) (y ∷ [])) words.0 words.1
-    ∙ laid-byte a.out.now a.at a.byte
+    ∙ laid_byte a.out.now a.at a.byte
 
-pub lay-byte-spec : {M : Type 1} → statement M
-lay-byte-spec =
+pub lay_byte_spec : {M : Type 1} → statement M
+lay_byte_spec =
     tie.close
     (tie.spec
     two-words-requires

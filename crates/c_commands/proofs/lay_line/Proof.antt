@@ -4,10 +4,10 @@ use mathlib.Core.List.{List, [], ◌∷◌}
 use Prim.Native.Nat.{ℕ, ◌+◌, ◌*◌}
 use lib.ListN.{length}
 use Rattle.characters.specs.Character.{stop}
-use Rattle.lines.specs.Line.{charactersOf}
-use Rattle.questions.specs.Bytes.{fillPairs}
+use Rattle.lines.specs.Line.{characters_of}
+use Rattle.questions.specs.Bytes.{fill_pairs}
 use Rattle.c_commands.specs.CommandBytes.{laid}
-use Rattle.c_commands.proofs.Laid.{laid-line}
+use Rattle.c_commands.proofs.Laid.{laid_line}
 use borrow.Author.Rules.{rules}
 use Rattle.c_commands.proofs.lay_line.Statement.{statement}
 use Rattle.c_commands.proofs.lay_line.Tie as tie
@@ -46,12 +46,12 @@ returns c =
     c.before.before.lay-word2.ensures
     ∙ ap (λ (l : List ℕ). laid l (start + 8 * a.pairs) (stop ∷ []))
     (c.before.before.before.before.before.before.lay-pairs.ensures
-    ∙ ap (λ (l : List ℕ). laid l start (charactersOf (fillPairs a.pairs)))
-    (c.before.before.before.before.before.before.before.before.before.before.lay-bytes.ensures ∙ ap (λ (l : List ℕ). laid l 2 (charactersOf a.head.now)) c.before.before.before.before.before.before.before.before.before.before.before.before.before.before.lay-word.ensures))
-    ∙ laid-line a.out.now a.head.now a.pairs
+    ∙ ap (λ (l : List ℕ). laid l start (characters_of (fill_pairs a.pairs)))
+    (c.before.before.before.before.before.before.before.before.before.before.lay-bytes.ensures ∙ ap (λ (l : List ℕ). laid l 2 (characters_of a.head.now)) c.before.before.before.before.before.before.before.before.before.before.before.before.before.before.lay-word.ensures))
+    ∙ laid_line a.out.now a.head.now a.pairs
 
-pub lay-line-spec : {M : Type 1} → statement M
-lay-line-spec =
+pub lay_line_spec : {M : Type 1} → statement M
+lay_line_spec =
     tie.close
     (tie.spec
     lay-word-requires

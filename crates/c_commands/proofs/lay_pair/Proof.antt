@@ -1,7 +1,7 @@
 -- `lay_pair` meets its contract: the eight bytes are those of the words of 2, C, 3 and D.
 use native.Mathlib.Omega.{arith}
 use lib.ListN.{length-set}
-use Rattle.c_commands.proofs.Laid.{laid-pair}
+use Rattle.c_commands.proofs.Laid.{laid_pair}
 use borrow.Author.Rules.{rules}
 use Rattle.c_commands.proofs.lay_pair.Statement.{statement}
 use Rattle.c_commands.proofs.lay_pair.Tie as tie
@@ -55,10 +55,10 @@ same_length : tie.Need-same-length
 same_length c = search rules
 
 returns : tie.Need-returns
-returns c = laid-pair c.args.out.now c.args.at
+returns c = laid_pair c.args.out.now c.args.at
 
-pub lay-pair-spec : {M : Type 1} → statement M
-lay-pair-spec =
+pub lay_pair_spec : {M : Type 1} → statement M
+lay_pair_spec =
     tie.close
     (tie.spec
     slice-write-out

@@ -27,7 +27,7 @@ same_length c = search rules
 returns : tie.Need-returns
 returns c = laid_word c.args.out.now c.args.at c.args.word
 
-pub lay-word-spec : {M : Type 1} → statement M
-lay-word-spec =
+pub lay_word_spec : {M : Type 1} → statement M
+lay_word_spec =
     tie.close
     (tie.spec cast-out slice-write-out cast-out-2 add-out slice-write-out-2 same_length returns)

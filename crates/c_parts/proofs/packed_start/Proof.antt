@@ -26,5 +26,5 @@ returns-2 c =
     let start = c.before.args.start in
     sym (ap (λ (t : Bool). cond t 0 (4 + 65536 * start)) (ne_eqb start 0 c.if1.false))
 
-pub packed-start-spec : {M : Type 1} → statement M
-packed-start-spec = tie.close (tie.spec returns cast-result mul-result add-result returns-2)
+pub packed_start_spec : {M : Type 1} → statement M
+packed_start_spec = tie.close (tie.spec returns cast-result mul-result add-result returns-2)

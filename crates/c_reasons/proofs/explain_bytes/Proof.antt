@@ -4,11 +4,11 @@ use mathlib.Core.List.{List}
 use Prim.Native.Nat.{ℕ}
 use native.Mathlib.Omega.{arith}
 use lib.ListN.{length, replicate, length-replicate, length-take}
-use Rattle.packing.specs.Words.{lineIn}
-use Rattle.packing.proofs.Taken.{taken-most, line-front}
-use Rattle.reasons.specs.Reason.{reasonOf}
-use Rattle.c_reasons.specs.Explain.{inBytes}
-use Rattle.c_reasons.proofs.OnWords.{as-taken}
+use Rattle.packing.specs.Words.{line_in}
+use Rattle.packing.proofs.Taken.{taken_most, line_front}
+use Rattle.reasons.specs.Reason.{reason_of}
+use Rattle.c_reasons.specs.Explain.{in_bytes}
+use Rattle.c_reasons.proofs.OnWords.{as_taken}
 use borrow.Author.Rules.{rules}
 use Rattle.c_reasons.proofs.explain_bytes.Statement.{statement}
 use Rattle.c_reasons.proofs.explain_bytes.Tie as tie
@@ -20,10 +20,10 @@ take-line-requires : tie.Need-take-line-requires
 take-line-requires c κs = search rules
 
 array-share-prefix-words : tie.Need-array-share-prefix-words
-array-share-prefix-words c = omega (arith, c.before.take-line.ensures.counts, taken-most 140 c.before.before.before.before.args.line.now)
+array-share-prefix-words c = omega (arith, c.before.take_line.ensures.counts, taken_most 140 c.before.before.before.before.args.line.now)
 
 slice-aggregate-explain : tie.Need-slice-aggregate-explain
-slice-aggregate-explain c = simp length-take (omega (arith, c.before.before.take-line.ensures.counts, taken-most 140 c.before.before.before.before.before.args.line.now, c.before.before.take-line.auto.1.0))
+slice-aggregate-explain c = simp length-take (omega (arith, c.before.before.take_line.ensures.counts, taken_most 140 c.before.before.before.before.before.args.line.now, c.before.before.take_line.auto.1.0))
 
 explain-requires : tie.Need-explain-requires
 explain-requires c κs = search rules
@@ -35,9 +35,9 @@ returns : tie.Need-returns
 returns c =
     let a = c.before.before.before.before.before.before.before.args in
     let bytes = a.line.now in
-    let taken = c.before.before.before.before.take-line in
-    let words = line-front bytes (replicate {A = ℕ} 140 0) _ taken.result taken.ensures ∙ ap (λ (n : ℕ). lineIn n bytes) (length-replicate {A = ℕ} 140 0) in
-    c.in_bytes.ensures ∙ ap (inBytes a.q (length bytes)) (c.before.explain.ensures ∙ ap (reasonOf a.q) words) ∙ as-taken a.q bytes
+    let taken = c.before.before.before.before.take_line in
+    let words = line_front bytes (replicate {A = ℕ} 140 0) _ taken.result taken.ensures ∙ ap (λ (n : ℕ). line_in n bytes) (length-replicate {A = ℕ} 140 0) in
+    c.in_bytes.ensures ∙ ap (in_bytes a.q (length bytes)) (c.before.explain.ensures ∙ ap (reason_of a.q) words) ∙ as_taken a.q bytes
 
-pub explain-bytes-spec : {M : Type 1} → statement M
-explain-bytes-spec = tie.close (tie.spec slice-aggregate-take-line take-line-requires array-share-prefix-words slice-aggregate-explain explain-requires in-bytes-requires returns)
+pub explain_bytes_spec : {M : Type 1} → statement M
+explain_bytes_spec = tie.close (tie.spec slice-aggregate-take-line take-line-requires array-share-prefix-words slice-aggregate-explain explain-requires in-bytes-requires returns)

@@ -1,7 +1,7 @@
 -- `in_bytes` meets its contract: an accepted line has nothing to be counted.
 use mathlib.Core.Path.{sym, ap, ◌∙◌}
 use Rattle.reasons.specs.declared.Reason.TheVariants.{TurnedAway}
-use Rattle.c_reasons.specs.Explain.{inBytes}
+use Rattle.c_reasons.specs.Explain.{in_bytes}
 use borrow.Author.Rules.{rules}
 use Rattle.c_reasons.proofs.in_bytes.Statement.{statement}
 use Rattle.c_reasons.proofs.in_bytes.Tie as tie
@@ -21,7 +21,7 @@ returns c = search rules
 returns-2 : tie.Need-returns-2
 returns-2 c =
     let a = c.before.before.before.before.args in
-    ap TurnedAway c.counted-in.ensures ∙ sym (ap (inBytes a.q a.bytes) c.before.before.reason.given.1)
+    ap TurnedAway c.counted-in.ensures ∙ sym (ap (in_bytes a.q a.bytes) c.before.before.reason.given.1)
 
-pub in-bytes-spec : {M : Type 1} → statement M
-in-bytes-spec = tie.close (tie.spec enum_told enum-known-reason counted-in-requires returns returns-2)
+pub in_bytes_spec : {M : Type 1} → statement M
+in_bytes_spec = tie.close (tie.spec enum_told enum-known-reason counted-in-requires returns returns-2)

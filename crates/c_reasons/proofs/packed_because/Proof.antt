@@ -1,7 +1,7 @@
 -- `packed_because` meets its contract: no part runs over into the next.
 use native.Mathlib.Omega.{arith}
 use Prim.Native.Nat.{◌≤◌}
-use Rattle.c_reasons.proofs.OnWords.{how-most, one-most}
+use Rattle.c_reasons.proofs.OnWords.{how_most, one_most}
 use borrow.Author.Rules.{rules}
 use Rattle.c_reasons.proofs.packed_because.Statement.{statement}
 use Rattle.c_reasons.proofs.packed_because.Tie as tie
@@ -38,7 +38,7 @@ small : (c : tie.After-sixteen3)
     → (c.before.before.before.before.before.before.how-placed.result ≤ 4) × (c.before.before.before.before.before.is_one.result ≤ 1)
 small c =
     let b = c.before.before.before.before.before.before.before.before.args.b in
-    (omega (arith, c.before.before.before.before.before.before.how-placed.ensures, how-most b.spot), omega (arith, c.before.before.before.before.before.is_one.ensures, one-most b.right))
+    (omega (arith, c.before.before.before.before.before.before.how-placed.ensures, how_most b.spot), omega (arith, c.before.before.before.before.before.is_one.ensures, one_most b.right))
 
 mul-result : tie.Need-overflow-mul-result
 mul-result c = omega (arith, small c, c.before.before.before.sixteen.ensures, c.before.before.sixteen2.ensures, c.sixteen3.ensures)
@@ -73,5 +73,5 @@ add-result-5 c = omega (arith, small c, c.before.before.before.sixteen.ensures, 
 returns : tie.Need-returns
 returns c = search rules
 
-pub packed-because-spec : {M : Type 1} → statement M
-packed-because-spec = tie.close (tie.spec reason-number-requires how-placed-requires is-one-requires place-of-requires sixteen-requires sixteen-requires-2 right-of-requires sixteen-requires-3 cast-result mul-result add-result mul-result-2 add-result-2 mul-result-3 add-result-3 mul-result-4 add-result-4 mul-result-5 add-result-5 returns)
+pub packed_because_spec : {M : Type 1} → statement M
+packed_because_spec = tie.close (tie.spec reason-number-requires how-placed-requires is-one-requires place-of-requires sixteen-requires sixteen-requires-2 right-of-requires sixteen-requires-3 cast-result mul-result add-result mul-result-2 add-result-2 mul-result-3 add-result-3 mul-result-4 add-result-4 mul-result-5 add-result-5 returns)

@@ -2,10 +2,10 @@
 use mathlib.Core.Path.{ap, ◌∙◌}
 use Prim.Native.Nat.{ℕ}
 use lib.ListN.{replicate, length-replicate}
-use Rattle.passage.specs.Acting.{handedOn}
+use Rattle.passage.specs.Acting.{handed_on}
 use Rattle.packing.specs.Words.{words_of}
-use Rattle.twin.specs.Step.{withChange}
-use Rattle.c_twin.proofs.Bytes.{own-unpacked}
+use Rattle.twin.specs.Step.{with_change}
+use Rattle.c_twin.proofs.Bytes.{own_unpacked}
 use borrow.Author.Rules.{rules}
 use Rattle.c_twin.proofs.hop_in_place.Statement.{statement}
 use Rattle.c_twin.proofs.hop_in_place.Tie as tie
@@ -52,14 +52,14 @@ returns c =
     let a = start.args in
     let pass = c.before.before.before.before.before.before.pass in
     let unpack = c.before.before.before.before.before.before.before.before.before.before.unpack in
-    let own = own-unpacked a.memory.now (replicate {A = ℕ} 256 0) unpack.new.1.0 a.device start.requires (length-replicate {A = ℕ} 256 0) unpack.ensures in
+    let own = own_unpacked a.memory.now (replicate {A = ℕ} 256 0) unpack.new.1.0 a.device start.requires (length-replicate {A = ℕ} 256 0) unpack.ensures in
     record {
-      remembers = c.before.before.keep.ensures ∙ ap (withChange (words_of a.memory.now) a.device) pass.ensures.says;
-      leaves = pass.ensures.leaves ∙ ap (handedOn a.n a.device a.line.now) own;
+      remembers = c.before.before.keep.ensures ∙ ap (with_change (words_of a.memory.now) a.device) pass.ensures.says;
+      leaves = pass.ensures.leaves ∙ ap (handed_on a.n a.device a.line.now) own;
     }
 
-pub hop-in-place-spec : {M : Type 1} → statement M
-hop-in-place-spec =
+pub hop_in_place_spec : {M : Type 1} → statement M
+hop_in_place_spec =
     tie.close
     (tie.spec
     mul-start

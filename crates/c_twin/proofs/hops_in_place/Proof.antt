@@ -5,16 +5,16 @@ use Prim.Native.Nat.{ℕ, ◌-◌, ◌≤◌}
 use native.Mathlib.Omega.{arith}
 use lib.ListN.{length}
 use Rattle.packing.specs.Words.{words_of}
-use Rattle.twin.specs.Step.{chainWith, hop, hopsFrom}
-use Rattle.twin.proofs.Span.{none-of-span, next-of-span}
+use Rattle.twin.specs.Step.{chain_with, hop, hops_from}
+use Rattle.twin.proofs.Span.{none_of_span, next_of_span}
 use Rattle.c_twin.proofs.hops_in_place.Statement.{statement}
 use Rattle.c_twin.proofs.hops_in_place.Tie as tie
 
 abbrev invariant-loop : tie.invariant-loop
 invariant-loop n from to memory₀ line₀ device₀ memory line device =
     (device ≤ to) × (from ≤ device)
-    × (words_of memory ≡ (hopsFrom n from device (chainWith (words_of memory₀) line₀)).memory)
-    × (line ≡ (hopsFrom n from device (chainWith (words_of memory₀) line₀)).line)
+    × (words_of memory ≡ (hops_from n from device (chain_with (words_of memory₀) line₀)).memory)
+    × (line ≡ (hops_from n from device (chain_with (words_of memory₀) line₀)).line)
     × (length memory ≡ length memory₀) × (length line ≡ length line₀)
 
 abbrev decreases-loop : tie.decreases-loop
@@ -23,7 +23,7 @@ decreases-loop n from to memory₀ line₀ device₀ memory line device = to - d
 loop-holds : tie.Need-loop-init invariant-loop decreases-loop
 loop-holds c =
     let a = c.before.before.args in
-    let none = sym (none-of-span a.n (chainWith (words_of a.memory.now) a.line.now) a.from) in
+    let none = sym (none_of_span a.n (chain_with (words_of a.memory.now) a.line.now) a.from) in
     (omega arith, omega arith, ap (λ x. x.memory) none, ap (λ x. x.line) none, refl, refl)
 
 hop-in-place-requires : tie.Need-hop-in-place-requires invariant-loop decreases-loop
@@ -41,9 +41,9 @@ loop-again : tie.Need-loop-preserved invariant-loop decreases-loop
 loop-again c =
     let a = c.before.before.before.before.before.before.before.before.before.before.before.args in
     let at = c.before.before.before.before.before.before.before.before.loop in
-    let s = chainWith (words_of a.memory.now) a.line.now in
+    let s = chain_with (words_of a.memory.now) a.line.now in
     let done = c.before.before.before.before.hop-in-place in
-    let stands = ap₂ (λ (m l : List ℕ). hop a.n at.device (chainWith m l)) at.invariant.2 at.invariant.3 ∙ next-of-span a.n s a.from at.device at.invariant.1 in (
+    let stands = ap₂ (λ (m l : List ℕ). hop a.n at.device (chain_with m l)) at.invariant.2 at.invariant.3 ∙ next_of_span a.n s a.from at.device at.invariant.1 in (
       omega arith,
       omega arith,
       done.ensures.remembers ∙ ap (λ x. x.memory) stands,
@@ -62,15 +62,15 @@ returns : tie.Need-returns invariant-loop decreases-loop
 returns c =
     let a = c.before.before.before.before.args in
     let at = c.before.loop in
-    let s = chainWith (words_of a.memory.now) a.line.now in
+    let s = chain_with (words_of a.memory.now) a.line.now in
     let all : at.device ≡ a.to = omega arith in
     record {
-      remembers = at.invariant.2 ∙ ap (λ (k : ℕ). (hopsFrom a.n a.from k s).memory) all;
-      leaves = at.invariant.3 ∙ ap (λ (k : ℕ). (hopsFrom a.n a.from k s).line) all;
+      remembers = at.invariant.2 ∙ ap (λ (k : ℕ). (hops_from a.n a.from k s).memory) all;
+      leaves = at.invariant.3 ∙ ap (λ (k : ℕ). (hops_from a.n a.from k s).line) all;
     }
 
-pub hops-in-place-spec : {M : Type 1} → statement M
-hops-in-place-spec =
+pub hops_in_place_spec : {M : Type 1} → statement M
+hops_in_place_spec =
     tie.close
     (tie.spec
     invariant-loop

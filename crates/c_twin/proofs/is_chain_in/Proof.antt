@@ -16,5 +16,5 @@ mul-result c = search rules
 returns-3 : tie.Need-returns-3
 returns-3 c = simp (le-leb _ _ c.before.if1.false, le-leb _ _ c.if2.false)
 
-pub is-chain-in-spec : {M : Type 1} → statement M
-is-chain-in-spec = tie.close (tie.spec returns returns-2 mul-result returns-3)
+pub is_chain_in_spec : {M : Type 1} → statement M
+is_chain_in_spec = tie.close (tie.spec returns returns-2 mul-result returns-3)

@@ -1,8 +1,8 @@
 -- `keep` meets its contract: the value's two bytes are stored in their place, which changes that word of the memory and no other.
 use mathlib.Core.Path.{sym, ap, ◌∙◌}
 use Rattle.packing.specs.Words.{words_of}
-use Rattle.twin.specs.Step.{withChange}
-use Rattle.c_twin.proofs.Bytes.{words-sets}
+use Rattle.twin.specs.Step.{with_change}
+use Rattle.c_twin.proofs.Bytes.{words_sets}
 use borrow.Author.Rules.{rules}
 use Rattle.c_twin.proofs.keep.Statement.{statement}
 use Rattle.c_twin.proofs.keep.Tie as tie
@@ -31,7 +31,7 @@ put-words-requires c κs = search rules
 returns : tie.Need-returns
 returns c =
     let a = c.before.before.before.args in
-    ap (withChange (words_of a.memory.now) a.device) (sym c.enum_told.given.1)
+    ap (with_change (words_of a.memory.now) a.device) (sym c.enum_told.given.1)
 
 same_length : tie.Need-same-length
 same_length c = search rules
@@ -39,8 +39,8 @@ same_length c = search rules
 returns-2 : tie.Need-returns-2
 returns-2 c =
     let a = c.before.before.before.before.before.before.before.before.before.args in
-    ap words_of c.before.before.put-words.ensures ∙ words-sets a.memory.now _ _
-    ∙ ap (withChange (words_of a.memory.now) a.device) (sym c.before.before.before.before.before.before.change.given.1)
+    ap words_of c.before.before.put-words.ensures ∙ words_sets a.memory.now _ _
+    ∙ ap (with_change (words_of a.memory.now) a.device) (sym c.before.before.before.before.before.before.change.given.1)
 
 pub keep_spec : {M : Type 1} → statement M
 keep_spec =

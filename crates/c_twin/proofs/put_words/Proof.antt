@@ -1,7 +1,7 @@
 -- `put_words` meets its contract: the words are packed at the front of the part from their place on, and there is room for all of them.
 use Prim.Native.Nat.{◌*◌}
 use native.Mathlib.Omega.{arith}
-use Rattle.c_twin.proofs.Bytes.{packed-from}
+use Rattle.c_twin.proofs.Bytes.{packed_from}
 use borrow.Author.Rules.{rules}
 use Rattle.c_twin.proofs.put_words.Statement.{statement}
 use Rattle.c_twin.proofs.put_words.Tie as tie
@@ -27,9 +27,9 @@ same_length c = search rules
 returns : tie.Need-returns
 returns c =
     let a = c.before.before.before.before.before.before.args in
-    packed-from a.memory.now a.words.now (2 * a.at) (omega (arith, c.before.before.before.before.before.before.requires)) _ c.before.before.pack.ensures
+    packed_from a.memory.now a.words.now (2 * a.at) (omega (arith, c.before.before.before.before.before.before.requires)) _ c.before.before.pack.ensures
 
-pub put-words-spec : {M : Type 1} → statement M
-put-words-spec =
+pub put_words_spec : {M : Type 1} → statement M
+put_words_spec =
     tie.close
     (tie.spec mul-start sub-pack part-pack-start part-pack-end pack-requires same_length returns)

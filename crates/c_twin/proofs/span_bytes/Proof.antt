@@ -2,8 +2,8 @@
 use mathlib.Core.Path.{sym, ◌∙◌}
 use native.Mathlib.Omega.{arith}
 use borrow.Author.Tests.{le-leb, lt-leb, eq-eqb, ne_eqb, not-true, not-false}
-use Rattle.c_twin.specs.TwinBytes.{bytesNumber}
-use Rattle.c_twin.proofs.SteppedBytes.{passed_on, turned-away, went_on}
+use Rattle.c_twin.specs.TwinBytes.{bytes_number}
+use Rattle.c_twin.proofs.SteppedBytes.{passed_on, turned_away, went_on}
 use borrow.Author.Rules.{rules}
 use Rattle.c_twin.proofs.span_bytes.Statement.{statement}
 use Rattle.c_twin.proofs.span_bytes.Tie as tie
@@ -12,24 +12,24 @@ is-chain-in-requires : tie.Need-is-chain-in-requires
 is-chain-in-requires c κs = search rules
 
 returns : tie.Need-returns
-unfolding bytesNumber
+unfolding bytes_number
 returns c =
     let a = c.before.before.before.before.before.args in
-    turned-away _ _ a.memory.now a.line.now a.out.now _ (simp (sym c.before.is-chain-in.ensures ∙ not-true _ c.if1.true)) (omega arith)
+    turned_away _ _ a.memory.now a.line.now a.out.now _ (simp (sym c.before.is-chain-in.ensures ∙ not-true _ c.if1.true)) (omega arith)
 
 returns-2 : tie.Need-returns-2
-unfolding bytesNumber
+unfolding bytes_number
 returns-2 c =
     let a = c.before.before.before.before.before.before.args in
     let chain = sym c.before.before.is-chain-in.ensures ∙ not-false _ c.before.if1.false in
-    turned-away _ _ a.memory.now a.line.now a.out.now _ (simp (chain, lt-leb _ _ c.if2.true)) (omega arith)
+    turned_away _ _ a.memory.now a.line.now a.out.now _ (simp (chain, lt-leb _ _ c.if2.true)) (omega arith)
 
 returns-3 : tie.Need-returns-3
-unfolding bytesNumber
+unfolding bytes_number
 returns-3 c =
     let a = c.before.before.before.before.before.before.before.args in
     let chain = sym c.before.before.before.is-chain-in.ensures ∙ not-false _ c.before.before.if1.false in
-    turned-away _ _ a.memory.now a.line.now a.out.now _ (simp (chain, le-leb _ _ c.before.if2.false, ne_eqb _ _ c.if3.true)) (omega arith)
+    turned_away _ _ a.memory.now a.line.now a.out.now _ (simp (chain, le-leb _ _ c.before.if2.false, ne_eqb _ _ c.if3.true)) (omega arith)
 
 store-requires : tie.Need-store-requires
 store-requires c κs = search rules
@@ -38,17 +38,17 @@ same_length : tie.Need-same-length
 same_length c = search rules
 
 returns-4 : tie.Need-returns-4
-unfolding bytesNumber
+unfolding bytes_number
 returns-4 c =
     let a = c.before.before.before.before.before.before.before.before.before.before.before.before.args in
     let chain = sym c.before.before.before.before.before.before.before.before.is-chain-in.ensures ∙ not-false _ c.before.before.before.before.before.before.before.if1.false in
     let room = c.before.before.before.before.before.before.if2.false in
     let even = c.before.before.before.before.before.if3.false in
-    let memory-known = c.before.before.before.before.before.before.before.before.before.before.before.slice-known.given in
+    let memory_known = c.before.before.before.before.before.before.before.before.before.before.before.slice-known.given in
     let Line-known = c.before.before.before.before.before.before.before.before.before.before.shared-slice-known.given in
     went_on _ _ a.memory.now a.line.now a.out.now _ _ (simp (chain, le-leb _ _ room, eq-eqb _ _ even))
     (passed_on a.n a.from a.to a.memory.now a.line.now a.out.now even c.before.before.before.before.if4.true _ chain (omega (arith, room, even))
-    (λ i. (memory-known i).fits) (λ i. (Line-known i).fits) c.before.before.store.ensures)
+    (λ i. (memory_known i).fits) (λ i. (Line-known i).fits) c.before.before.store.ensures)
 
 hop-bytes-requires : tie.Need-hop-bytes-requires
 hop-bytes-requires c κs =
@@ -65,14 +65,14 @@ same-length-3 : tie.Need-same-length-3
 same-length-3 c = search rules
 
 returns-5 : tie.Need-returns-5
-unfolding bytesNumber
+unfolding bytes_number
 returns-5 c =
     let a = c.before.before.before.before.before.before.before.before.before.before.before.before.before.before.before.args in
     let chain = sym c.before.before.before.before.before.before.before.before.before.before.before.is-chain-in.ensures ∙ not-false _ c.before.before.before.before.before.before.before.before.before.before.if1.false in
     went_on _ _ a.memory.now a.line.now a.out.now _ _ (simp (chain, le-leb _ _ c.before.before.before.before.before.before.before.before.before.if2.false, eq-eqb _ _ c.before.before.before.before.before.before.before.before.if3.false)) c.before.before.before.before.hop-bytes.ensures
 
-pub span-bytes-spec : {M : Type 1} → statement M
-span-bytes-spec =
+pub span_bytes_spec : {M : Type 1} → statement M
+span_bytes_spec =
     tie.close
     (tie.spec
     is-chain-in-requires

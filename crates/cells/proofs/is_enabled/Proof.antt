@@ -24,5 +24,5 @@ shr-result c = search rules
 returns : tie.Need-returns
 returns c = bit_below c.args.mask c.args.c c.requires.0
 
-pub is-enabled-spec : {M : Type 1} → statement M
-is-enabled-spec = tie.close (tie.spec sub-result cast-result shr-result returns)
+pub is_enabled_spec : {M : Type 1} → statement M
+is_enabled_spec = tie.close (tie.spec sub-result cast-result shr-result returns)

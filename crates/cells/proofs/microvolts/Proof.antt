@@ -7,8 +7,8 @@ use lib.IntN.{ℤ, pos, negsuc, nat_abs, ◌+ℤ◌, ◌*ℤ◌}
 use lib.Signed.{lt_z, quot_z}
 use mir.Syntax.{w32}
 use mir.Val.{SFits, to_z, of_z}
-use Rattle.cells.specs.Voltage.{microvoltsOf}
-use Rattle.cells.proofs.Scaled.{scaled_fits, half_of, half-below, half-above, half-fits, half_is, microvolts-fit, kept}
+use Rattle.cells.specs.Voltage.{microvolts_of}
+use Rattle.cells.proofs.Scaled.{scaled_fits, half_of, half_below, half_above, half_fits, half_is, microvolts_fit, kept}
 use Rattle.cells.proofs.microvolts.Statement.{statement}
 use Rattle.cells.proofs.microvolts.Tie as tie
 
@@ -26,37 +26,37 @@ module _ (d : ℤ) (f : SFits w32 d) (h : nat_abs d < 16384) (half : ℤ) (away 
   plus : to_z w32 (of_z w32 (to_z w32 (of_z w32 d) *ℤ pos 78125)) +ℤ half ≡ d *ℤ pos 78125 +ℤ half_of d
   plus = λ i. scaled d f h i +ℤ sym away i
 
-  plus-fits : SFits w32 (to_z w32 (of_z w32 (to_z w32 (of_z w32 d) *ℤ pos 78125)) +ℤ half)
-  plus-fits = subst (SFits w32) (sym plus) (half-fits d h)
+  plus_fits : SFits w32 (to_z w32 (of_z w32 (to_z w32 (of_z w32 d) *ℤ pos 78125)) +ℤ half)
+  plus_fits = subst (SFits w32) (sym plus) (half_fits d h)
 
-  cut : quot_z (to_z w32 (of_z w32 (to_z w32 (of_z w32 (to_z w32 (of_z w32 d) *ℤ pos 78125)) +ℤ half))) (pos 256) ≡ microvoltsOf d
-  cut = ap (λ (z : ℤ). quot_z z (pos 256)) (kept _ (d *ℤ pos 78125 +ℤ half_of d) plus (half-fits d h)) ∙ half_is d
+  cut : quot_z (to_z w32 (of_z w32 (to_z w32 (of_z w32 (to_z w32 (of_z w32 d) *ℤ pos 78125)) +ℤ half))) (pos 256) ≡ microvolts_of d
+  cut = ap (λ (z : ℤ). quot_z z (pos 256)) (kept _ (d *ℤ pos 78125 +ℤ half_of d) plus (half_fits d h)) ∙ half_is d
 
   cut_fits : SFits w32 (quot_z (to_z w32 (of_z w32 (to_z w32 (of_z w32 (to_z w32 (of_z w32 d) *ℤ pos 78125)) +ℤ half))) (pos 256))
-  cut_fits = subst (SFits w32) (sym cut) (microvolts-fit d h)
+  cut_fits = subst (SFits w32) (sym cut) (microvolts_fit d h)
 
-  answer : to_z w32 (of_z w32 (quot_z (to_z w32 (of_z w32 (to_z w32 (of_z w32 (to_z w32 (of_z w32 d) *ℤ pos 78125)) +ℤ half))) (pos 256))) ≡ microvoltsOf d
-  answer = kept _ (microvoltsOf d) cut (microvolts-fit d h)
+  answer : to_z w32 (of_z w32 (quot_z (to_z w32 (of_z w32 (to_z w32 (of_z w32 (to_z w32 (of_z w32 d) *ℤ pos 78125)) +ℤ half))) (pos 256))) ≡ microvolts_of d
+  answer = kept _ (microvolts_of d) cut (microvolts_fit d h)
 
 -- which half the test chose
 taken : (d : ℤ) → SFits w32 d → lt_z (to_z w32 (of_z w32 d)) (pos 0) ≡ true → half_of d ≡ negsuc 127
-taken d f t = half-below d (ap (λ (z : ℤ). lt_z z (pos 0)) (sym (kept d d refl f)) ∙ t)
+taken d f t = half_below d (ap (λ (z : ℤ). lt_z z (pos 0)) (sym (kept d d refl f)) ∙ t)
 
 left : (d : ℤ) → SFits w32 d → lt_z (to_z w32 (of_z w32 d)) (pos 0) ≡ false → half_of d ≡ pos 128
-left d f t = half-above d (ap (λ (z : ℤ). lt_z z (pos 0)) (sym (kept d d refl f)) ∙ t)
+left d f t = half_above d (ap (λ (z : ℤ). lt_z z (pos 0)) (sym (kept d d refl f)) ∙ t)
 
 mul-scaled : tie.Need-overflow-mul-scaled
 mul-scaled c = subst (SFits w32) (sym (times c.args.d c.ranges.d c.requires)) (scaled_fits c.args.d c.requires)
 
 sub-result : tie.Need-overflow-sub-result
-sub-result c = let b = c.before in plus-fits b.args.d b.ranges.d b.requires (negsuc 127) (taken b.args.d b.ranges.d c.if1.true)
+sub-result c = let b = c.before in plus_fits b.args.d b.ranges.d b.requires (negsuc 127) (taken b.args.d b.ranges.d c.if1.true)
 
 div-result : tie.Need-nonzero-div-result
 div-result c =
     let b = c.before in (lit< tt, cut_fits b.args.d b.ranges.d b.requires (negsuc 127) (taken b.args.d b.ranges.d c.if1.true))
 
 add-result : tie.Need-overflow-add-result
-add-result c = let b = c.before in plus-fits b.args.d b.ranges.d b.requires (pos 128) (left b.args.d b.ranges.d c.if1.false)
+add-result c = let b = c.before in plus_fits b.args.d b.ranges.d b.requires (pos 128) (left b.args.d b.ranges.d c.if1.false)
 
 div-result-2 : tie.Need-nonzero-div-result-2
 div-result-2 c = let b = c.before in (lit< tt, cut_fits b.args.d b.ranges.d b.requires (pos 128) (left b.args.d b.ranges.d c.if1.false))
@@ -67,5 +67,5 @@ returns c = let b = c.before in answer b.args.d b.ranges.d b.requires (negsuc 12
 returns-2 : tie.Need-returns-2
 returns-2 c = let b = c.before in answer b.args.d b.ranges.d b.requires (pos 128) (left b.args.d b.ranges.d c.if1.false)
 
-pub microvolts-spec : {M : Type 1} → statement M
-microvolts-spec = tie.close (tie.spec mul-scaled sub-result div-result add-result div-result-2 returns returns-2)
+pub microvolts_spec : {M : Type 1} → statement M
+microvolts_spec = tie.close (tie.spec mul-scaled sub-result div-result add-result div-result-2 returns returns-2)

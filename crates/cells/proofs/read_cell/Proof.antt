@@ -51,6 +51,6 @@ returns-5 c =
       eq-eqb _ _ c.before.if4.false,
     )
 
-pub read-cell-spec : {M : Type 1} → statement M
-read-cell-spec =
+pub read_cell_spec : {M : Type 1} → statement M
+read_cell_spec =
     tie.close (tie.spec returns returns-2 is-enabled-requires returns-3 returns-4 voltage-of-requires returns-5)

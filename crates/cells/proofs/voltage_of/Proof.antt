@@ -5,19 +5,19 @@ use Prim.Native.Nat.{ℕ, ◌<◌}
 use lib.IntN.{ℤ, nat_abs}
 use mir.Syntax.{w32}
 use mir.Val.{to_z, of_z}
-use Rattle.cells.specs.Voltage.{steps_of, microvoltsOf, voltsOf}
+use Rattle.cells.specs.Voltage.{steps_of, microvolts_of, volts_of}
 use Rattle.cells.specs.declared.Range.{Range}
-use Rattle.cells.proofs.Scaled.{kept, few-steps, steps-fit, microvolts-fit}
+use Rattle.cells.proofs.Scaled.{kept, few_steps, steps_fit, microvolts_fit}
 use Rattle.cells.proofs.voltage_of.Statement.{statement}
 use Rattle.cells.proofs.voltage_of.Tie as tie
 
 -- what `steps` answered, in its word
 module _ (range : Range) (m : ℕ) (h : m < 16384) (d : ℤ) (is : d ≡ steps_of range m) where
   word : to_z w32 (of_z w32 d) ≡ steps_of range m
-  word = kept d (steps_of range m) is (steps-fit range m h)
+  word = kept d (steps_of range m) is (steps_fit range m h)
 
   few : nat_abs (to_z w32 (of_z w32 d)) < 16384
-  few = subst (λ (z : ℤ). nat_abs z < 16384) (sym word) (few-steps range m h)
+  few = subst (λ (z : ℤ). nat_abs z < 16384) (sym word) (few_steps range m h)
 
 steps-requires : tie.Need-steps-requires
 steps-requires c κs = search rules
@@ -35,9 +35,9 @@ returns c =
     let m = b.args.code.0 in
     let steps = c.before.before.steps in
     let d = word range m b.requires steps.result steps.ensures in
-    let micro = kept c.before.microvolts.result (microvoltsOf (steps_of range m)) (c.before.microvolts.ensures ∙ ap microvoltsOf d)
-    (microvolts-fit (steps_of range m) (few-steps range m b.requires)) in
-    λ i. record { microvolts = micro i; volts = (c.volts.ensures ∙ ap voltsOf d) i }
+    let micro = kept c.before.microvolts.result (microvolts_of (steps_of range m)) (c.before.microvolts.ensures ∙ ap microvolts_of d)
+    (microvolts_fit (steps_of range m) (few_steps range m b.requires)) in
+    λ i. record { microvolts = micro i; volts = (c.volts.ensures ∙ ap volts_of d) i }
 
-pub voltage-of-spec : {M : Type 1} → statement M
-voltage-of-spec = tie.close (tie.spec steps-requires microvolts-requires volts-requires returns)
+pub voltage_of_spec : {M : Type 1} → statement M
+voltage_of_spec = tie.close (tie.spec steps-requires microvolts-requires volts-requires returns)

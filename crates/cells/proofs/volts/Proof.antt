@@ -2,15 +2,15 @@
 -- are read off the code (`_`; a literal below zero is the `neg` of one above): all of it would hold of -5 and -16384.0, but the sign of 0 V.
 use mathlib.Core.Path.{refl}
 use lib.Ieee.{of_bits, neg}
-use Rattle.cells.proofs.Quotient.{product-fits, product-in-float, quotient}
+use Rattle.cells.proofs.Quotient.{product_fits, product_in_float, quotient}
 use Rattle.cells.proofs.volts.Statement.{statement}
 use Rattle.cells.proofs.volts.Tie as tie
 
 mul-result : tie.Need-overflow-mul-result
-mul-result c = product-fits c.args.d c.requires _ refl
+mul-result c = product_fits c.args.d c.requires _ refl
 
 int-to-float-result : tie.Need-int-to-float-result
-int-to-float-result c = product-in-float c.before.args.d c.before.requires _ refl
+int-to-float-result c = product_in_float c.before.args.d c.before.requires _ refl
 
 returns : tie.Need-returns
 unfolding of_bits neg
@@ -19,5 +19,5 @@ returns c =
     -- the sign of 0 V
     refl
 
-pub volts-spec : {M : Type 1} → statement M
-volts-spec = tie.close (tie.spec mul-result int-to-float-result returns)
+pub volts_spec : {M : Type 1} → statement M
+volts_spec = tie.close (tie.spec mul-result int-to-float-result returns)

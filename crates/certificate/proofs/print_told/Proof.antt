@@ -6,7 +6,7 @@ use native.Mathlib.Omega.{arith}
 use lib.ListN.{length-take}
 use Rattle.letters.specs.declared.Standing.{Standing}
 use Rattle.printing.specs.Print.{PrintDone}
-use Rattle.certificate.specs.Certificate.{heardIn, numbersOf}
+use Rattle.certificate.specs.Certificate.{heard_in, numbers_of}
 use borrow.Author.Rules.{rules}
 use Rattle.certificate.proofs.print_told.Statement.{statement}
 use Rattle.certificate.proofs.print_told.Tie as tie
@@ -38,11 +38,11 @@ returns c =
     let told = c.before.before.before.before.before.before.before.tell.ensures in
     let text = a.text.now in
     let after = c.before.before.print.new.1.1.1.1.0 in
-    subst (λ (s : Standing). PrintDone a.header.version a.header.n (numbersOf (heardIn a.file.now)) s text after c.before.before.print.result) told.standing
+    subst (λ (s : Standing). PrintDone a.header.version a.header.n (numbers_of (heard_in a.file.now)) s text after c.before.before.print.result) told.standing
     (subst (λ (numbers : List ℕ). PrintDone a.header.version a.header.n numbers c.before.before.before.before.before.before.before.tell.result.standing text after c.before.before.print.result) told.numbers c.before.before.print.ensures)
 
-pub print-told-spec : {M : Type 1} → statement M
-print-told-spec =
+pub print_told_spec : {M : Type 1} → statement M
+print_told_spec =
     tie.close
     (tie.spec
     blank-numbers-requires

@@ -4,7 +4,7 @@ use mathlib.Core.List.{List}
 use Prim.Native.Nat.{ℕ}
 use lib.ListN.{set, length-set}
 use Rattle.characters.specs.Character.{stop}
-use Rattle.commands.proofs.Filled.{end, filled-refused, filled-written}
+use Rattle.commands.proofs.Filled.{end, filled_refused, filled_written}
 use borrow.Author.Rules.{rules}
 use Rattle.commands.proofs.put_filled.Statement.{statement}
 use Rattle.commands.proofs.put_filled.Tie as tie
@@ -24,7 +24,7 @@ add-end c = search rules
 returns : tie.Need-returns
 returns c =
     let a = c.before.before.before.args in
-    filled-refused a.head.now a.out.now a.pairs c.if1.true
+    filled_refused a.head.now a.out.now a.pairs c.if1.true
 
 put-line-requires : tie.Need-put-line-requires
 put-line-requires c κs = search rules
@@ -42,17 +42,17 @@ add-t7 : tie.Need-overflow-add-t7
 add-t7 c = search rules
 
 same_length : tie.Need-same-length
-same_length c = simp length-set (c.before.before.put-pairs.auto.0 ∙ c.before.before.before.before.before.before.put-line.auto.1.0)
+same_length c = simp length-set (c.before.before.put-pairs.auto.0 ∙ c.before.before.before.before.before.before.put_line.auto.1.0)
 
 returns-2 : tie.Need-returns-2
 returns-2 c =
     let a = c.before.before.before.before.before.before.before.before.before.before.before.args in
-    let put = c.before.before.before.before.before.before.put-line in
-    filled-written a.head.now a.out.now a.pairs put.new.1.0 _ put.result c.before.before.before.before.before.before.before.before.if1.false put.ensures
+    let put = c.before.before.before.before.before.before.put_line in
+    filled_written a.head.now a.out.now a.pairs put.new.1.0 _ put.result c.before.before.before.before.before.before.before.before.if1.false put.ensures
     (ap (λ (words : List ℕ). set words (end a.head.now a.pairs) stop) c.before.before.put-pairs.ensures)
 
-pub put-filled-spec : {M : Type 1} → statement M
-put-filled-spec =
+pub put_filled_spec : {M : Type 1} → statement M
+put_filled_spec =
     tie.close
     (tie.spec
     mul-start

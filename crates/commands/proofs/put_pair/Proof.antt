@@ -1,7 +1,7 @@
 -- `put_pair` meets its contract: the four words stored are those of C2 and of D3.
 use native.Mathlib.Omega.{arith}
 use lib.ListN.{length-set}
-use Rattle.commands.proofs.Filled.{stored-pair}
+use Rattle.commands.proofs.Filled.{stored_pair}
 use borrow.Author.Rules.{rules}
 use Rattle.commands.proofs.put_pair.Statement.{statement}
 use Rattle.commands.proofs.put_pair.Tie as tie
@@ -57,10 +57,10 @@ same_length c = search rules
 returns : tie.Need-returns
 returns c =
     let a = c.before.before.before.before.before.args in
-    stored-pair a.out.now a.at _ _ _ _ c.before.before.before.word_of.ensures c.before.before.word-of2.ensures c.before.word-of3.ensures c.word-of4.ensures
+    stored_pair a.out.now a.at _ _ _ _ c.before.before.before.word_of.ensures c.before.before.word-of2.ensures c.before.word-of3.ensures c.word-of4.ensures
 
-pub put-pair-spec : {M : Type 1} → statement M
-put-pair-spec =
+pub put_pair_spec : {M : Type 1} → statement M
+put_pair_spec =
     tie.close
     (tie.spec
     word-of-requires

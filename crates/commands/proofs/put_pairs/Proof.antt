@@ -5,20 +5,20 @@ use Prim.Native.Nat.{ℕ, ◌+◌, ◌-◌, ◌*◌, ◌≤◌}
 use native.Mathlib.Omega.{arith}
 use lib.ListN.{length}
 use lib.Seq.{sets}
-use Rattle.lines.specs.Line.{charactersOf}
-use Rattle.questions.specs.Bytes.{fillPairs}
+use Rattle.lines.specs.Line.{characters_of}
+use Rattle.questions.specs.Bytes.{fill_pairs}
 use Rattle.commands.proofs.Filled.{pairs_next}
 use Rattle.commands.proofs.put_pairs.Statement.{statement}
 use Rattle.commands.proofs.put_pairs.Tie as tie
 
 abbrev invariant-loop : tie.invariant-loop
-invariant-loop out₀ start pairs k₀ out k = (k ≤ pairs) × (out ≡ sets out₀ start (charactersOf (fillPairs k))) × (length out ≡ length out₀)
+invariant-loop out₀ start pairs k₀ out k = (k ≤ pairs) × (out ≡ sets out₀ start (characters_of (fill_pairs k))) × (length out ≡ length out₀)
 
 abbrev decreases-loop : tie.decreases-loop
 decreases-loop out₀ start pairs k₀ out k = pairs - k
 
 loop-holds : tie.Need-loop-init invariant-loop decreases-loop
-unfolding charactersOf fillPairs
+unfolding characters_of fill_pairs
 loop-holds c = (omega arith, refl, refl)
 
 mul-put-pair : tie.Need-overflow-mul-put-pair invariant-loop decreases-loop
@@ -42,7 +42,7 @@ loop-again c =
     let at = c.before.before.before.before.before.loop in (
       omega arith,
       c.before.before.put-pair.ensures
-          ∙ ap (λ (words : List ℕ). sets words (a.start + 4 * at.k) (charactersOf (fillPairs 1))) at.invariant.1
+          ∙ ap (λ (words : List ℕ). sets words (a.start + 4 * at.k) (characters_of (fill_pairs 1))) at.invariant.1
           ∙ pairs_next a.out.now a.start at.k,
       c.before.before.put-pair.auto.0 ∙ at.invariant.2,
     )
@@ -55,10 +55,10 @@ returns c =
     let a = c.before.before.before.args in
     let at = c.before.loop in
     let all : at.k ≡ a.pairs = omega arith in
-    at.invariant.1 ∙ ap (λ (k : ℕ). sets a.out.now a.start (charactersOf (fillPairs k))) all
+    at.invariant.1 ∙ ap (λ (k : ℕ). sets a.out.now a.start (characters_of (fill_pairs k))) all
 
-pub put-pairs-spec : {M : Type 1} → statement M
-put-pairs-spec =
+pub put_pairs_spec : {M : Type 1} → statement M
+put_pairs_spec =
     tie.close
     (tie.spec
     invariant-loop

@@ -1,6 +1,6 @@
 -- `echoes` meets its contract: at each `return` the bytes looked at so far decide the row.
 use Rattle.std.proofs.Common.{ℕ, eqb, sym, ap, ◌∙◌, rules}
-use Rattle.contents.proofs.RowLaws.{positive, first-other, hello-echo, second-other, write-echo, read-echo}
+use Rattle.contents.proofs.RowLaws.{positive, first_other, hello_echo, second_other, write_echo, read_echo}
 use Rattle.contents.proofs.echoes.Statement.{statement}
 use Rattle.contents.proofs.echoes.Tie as tie
 
@@ -13,7 +13,7 @@ wide-requires c κs = search rules
 returns : tie.Need-returns
 returns c =
     let a = c.before.before.before.before.args in
-    first-other a.q a.bytes.now
+    first_other a.q a.bytes.now
     (λ e. c.if1.true (c.before.wide.ensures ∙ c.before.before.byte-or-zero.ensures ∙ e ∙ sym c.before.before.before.before.requires))
 
 byte-or-zero-requires-2 : tie.Need-byte-or-zero-requires-2
@@ -23,13 +23,13 @@ returns-2 : tie.Need-returns-2
 returns-2 c =
     let a = c.before.before.before.before.before.before.args in
     let first = sym (c.before.before.before.wide.ensures ∙ c.before.before.before.before.byte-or-zero.ensures) ∙ c.before.before.if1.false ∙ c.before.before.before.before.before.before.requires in
-    ap (λ (x : ℕ). eqb x 0) c.before.byte-or-zero2.ensures ∙ hello-echo a.q a.bytes.now first c.if2.true
+    ap (λ (x : ℕ). eqb x 0) c.before.byte-or-zero2.ensures ∙ hello_echo a.q a.bytes.now first c.if2.true
 
 returns-3 : tie.Need-returns-3
 returns-3 c =
     let a = c.before.before.before.before.before.before.before.args in
     let first = sym (c.before.before.before.before.wide.ensures ∙ c.before.before.before.before.before.byte-or-zero.ensures) ∙ c.before.before.before.if1.false ∙ c.before.before.before.before.before.before.before.requires in
-    second-other a.q a.bytes.now first (positive a.q.kind c.before.if2.false)
+    second_other a.q a.bytes.now first (positive a.q.kind c.before.if2.false)
     (λ e. c.if3.true (c.before.before.byte-or-zero2.ensures ∙ e))
 
 value-echoes-requires : tie.Need-value-echoes-requires
@@ -40,17 +40,17 @@ returns-4 c =
     let a = c.before.before.before.before.before.before.before.before.before.args in
     let first = sym (c.before.before.before.before.before.before.wide.ensures ∙ c.before.before.before.before.before.before.before.byte-or-zero.ensures) ∙ c.before.before.before.before.before.if1.false ∙ c.before.before.before.before.before.before.before.before.before.requires in
     c.value-echoes.ensures
-    ∙ write-echo a.q a.bytes.now first (positive a.q.kind c.before.before.before.if2.false) c.before.if4.true
+    ∙ write_echo a.q a.bytes.now first (positive a.q.kind c.before.before.before.if2.false) c.before.if4.true
     (sym c.before.before.before.before.byte-or-zero2.ensures ∙ c.before.before.if3.false)
 
 returns-5 : tie.Need-returns-5
 returns-5 c =
     let a = c.before.before.before.before.before.before.before.before.args in
     let first = sym (c.before.before.before.before.before.wide.ensures ∙ c.before.before.before.before.before.before.byte-or-zero.ensures) ∙ c.before.before.before.before.if1.false ∙ c.before.before.before.before.before.before.before.before.requires in
-    read-echo a.q a.bytes.now first c.if4.false (sym c.before.before.before.byte-or-zero2.ensures ∙ c.before.if3.false)
+    read_echo a.q a.bytes.now first c.if4.false (sym c.before.before.before.byte-or-zero2.ensures ∙ c.before.if3.false)
 
-pub echoes-spec : {M : Type 1} → statement M
-echoes-spec =
+pub echoes_spec : {M : Type 1} → statement M
+echoes_spec =
     tie.close
     (tie.spec
     byte-or-zero-requires

@@ -26,8 +26,8 @@ returns c = search rules
 returns-2 : tie.Need-returns-2
 returns-2 c = search rules
 
-pub damages-spec : {M : Type 1} → statement M
-damages-spec =
+pub damages_spec : {M : Type 1} → statement M
+damages_spec =
     tie.close
     (tie.spec
     mul-bits

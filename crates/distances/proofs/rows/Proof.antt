@@ -29,7 +29,7 @@ loop-again c = omega arith
 returns : tie.Need-returns invariant-loop decreases-loop
 returns c = search rules
 
-pub rows-spec : {M : Type 1} → statement M
-rows-spec =
+pub rows_spec : {M : Type 1} → statement M
+rows_spec =
     tie.close
     (tie.spec invariant-loop decreases-loop loop-holds row-requires add-n loop-less loop-again returns)

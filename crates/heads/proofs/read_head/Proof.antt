@@ -2,7 +2,7 @@
 use mathlib.Core.Path.{ap₂}
 use mathlib.Core.List.{[], ◌∷◌}
 use Prim.Native.Nat.{ℕ}
-use Rattle.pec.proofs.Byte.{three-steps}
+use Rattle.pec.proofs.Byte.{three_steps}
 use borrow.Author.Rules.{rules}
 use Rattle.heads.proofs.read_head.Statement.{statement}
 use Rattle.heads.proofs.read_head.Tie as tie
@@ -23,9 +23,9 @@ returns : tie.Need-returns
 returns c =
     let a = c.before.before.before.before.args in
     ap₂ (λ (check count : ℕ). record { bytes = a.first ∷ a.q.reg ∷ 0 ∷ check ∷ a.q.seed ∷ 0 ∷ []; count = count })
-    (three-steps a.first a.q.reg 0 c.before.before.before.step.ensures c.before.before.step2.ensures c.before.step3.ensures)
+    (three_steps a.first a.q.reg 0 c.before.before.before.step.ensures c.before.before.step2.ensures c.before.step3.ensures)
     c.with-alive.ensures
 
-pub read-head-spec : {M : Type 1} → statement M
-read-head-spec =
+pub read_head_spec : {M : Type 1} → statement M
+read_head_spec =
     tie.close (tie.spec step-requires step-requires-2 step-requires-3 with-alive-requires returns)

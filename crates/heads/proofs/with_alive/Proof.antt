@@ -13,5 +13,5 @@ returns c = simp (eq-eqb _ _ c.if1.true)
 returns-2 : tie.Need-returns-2
 returns-2 c = simp (ne_eqb _ _ c.if1.false)
 
-pub with-alive-spec : {M : Type 1} → statement M
-with-alive-spec = tie.close (tie.spec add-result returns returns-2)
+pub with_alive_spec : {M : Type 1} → statement M
+with_alive_spec = tie.close (tie.spec add-result returns returns-2)

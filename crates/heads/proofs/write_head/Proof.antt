@@ -2,7 +2,7 @@
 use mathlib.Core.Path.{ap₂}
 use mathlib.Core.List.{[], ◌∷◌}
 use Prim.Native.Nat.{ℕ, ◌/◌, ◌%◌}
-use Rattle.pec.proofs.Byte.{four-steps}
+use Rattle.pec.proofs.Byte.{four_steps}
 use borrow.Author.Rules.{rules}
 use Rattle.heads.proofs.write_head.Statement.{statement}
 use Rattle.heads.proofs.write_head.Tie as tie
@@ -34,12 +34,12 @@ returns c =
     let low = a.q.value % 256 in
     let high = a.q.value / 256 in
     ap₂ (λ (check count : ℕ). record { bytes = a.first ∷ a.q.reg ∷ low ∷ high ∷ check ∷ a.q.seed ∷ []; count = count })
-    (four-steps a.first a.q.reg low high c.before.before.before.before.step.ensures c.before.before.before.step2.ensures
+    (four_steps a.first a.q.reg low high c.before.before.before.before.step.ensures c.before.before.before.step2.ensures
     c.before.before.step3.ensures c.before.step4.ensures)
     c.with-alive.ensures
 
-pub write-head-spec : {M : Type 1} → statement M
-write-head-spec =
+pub write_head_spec : {M : Type 1} → statement M
+write_head_spec =
     tie.close
     (tie.spec
     cast-low

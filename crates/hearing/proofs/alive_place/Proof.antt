@@ -3,7 +3,7 @@ use native.Mathlib.Omega.{arith}
 use mathlib.Core.Path.{ap}
 use Prim.Native.Nat.{ℕ, ◌+◌, ◌*◌}
 use borrow.Author.Tests.{le-leb, lt-leb}
-use Rattle.hearing.proofs.Hearing.{carried-le}
+use Rattle.hearing.proofs.Hearing.{carried_le}
 use borrow.Author.Rules.{rules}
 use Rattle.hearing.proofs.alive_place.Statement.{statement}
 use Rattle.hearing.proofs.alive_place.Tie as tie
@@ -15,13 +15,13 @@ carried-by-requires : tie.Need-carried-by-requires
 carried-by-requires c κs = search rules
 
 mul-result : tie.Need-overflow-mul-result
-mul-result c = omega (arith, c.carried-by.ensures, carried-le c.before.before.args.kind c.before.before.args.device)
+mul-result c = omega (arith, c.carried-by.ensures, carried_le c.before.before.args.kind c.before.before.args.device)
 
 add-result : tie.Need-overflow-add-result
-add-result c = omega (arith, c.carried-by.ensures, carried-le c.before.before.args.kind c.before.before.args.device)
+add-result c = omega (arith, c.carried-by.ensures, carried_le c.before.before.args.kind c.before.before.args.device)
 
 returns-2 : tie.Need-returns-2
 returns-2 c = simp (lt-leb _ _ c.before.if1.false) (ap (λ (m : ℕ). 4 + 2 * m) c.carried-by.ensures)
 
-pub alive-place-spec : {M : Type 1} → statement M
-alive-place-spec = tie.close (tie.spec returns carried-by-requires mul-result add-result returns-2)
+pub alive_place_spec : {M : Type 1} → statement M
+alive_place_spec = tie.close (tie.spec returns carried-by-requires mul-result add-result returns-2)

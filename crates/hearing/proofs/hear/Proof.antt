@@ -1,7 +1,7 @@
 -- `hear` meets its contract: the two parts, one after the other.
 use mathlib.Core.Path.{ap, ◌∙◌}
 use lib.ListN.{length}
-use Rattle.hearing.specs.Hear.{aliveTold}
+use Rattle.hearing.specs.Hear.{alive_told}
 use Rattle.questions.specs.declared.question.Question.{Question}
 use borrow.Author.Rules.{rules}
 use Rattle.hearing.proofs.hear.Statement.{statement}
@@ -14,7 +14,7 @@ with-alive-requires : tie.Need-with-alive-requires
 with-alive-requires c κs = search rules
 
 returns : tie.Need-returns
-returns c = c.with-alive.ensures ∙ ap (λ (q : Question). aliveTold q (length c.before.before.before.args.line.now)) c.before.without-alive.ensures
+returns c = c.with-alive.ensures ∙ ap (λ (q : Question). alive_told q (length c.before.before.before.args.line.now)) c.before.without-alive.ensures
 
-pub hear-spec : {M : Type 1} → statement M
-hear-spec = tie.close (tie.spec without-alive-requires with-alive-requires returns)
+pub hear_spec : {M : Type 1} → statement M
+hear_spec = tie.close (tie.spec without-alive-requires with-alive-requires returns)

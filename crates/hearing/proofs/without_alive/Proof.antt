@@ -1,9 +1,9 @@
 -- `without_alive` meets its contract: number by number.
 use mathlib.Core.Path.{ap, ◌∙◌}
 use Prim.Native.Nat.{ℕ}
-use Rattle.lines.specs.Line.{byteAt}
-use Rattle.hearing.specs.Hear.{kindHeard, alivePlace, plainly}
-use Rattle.hearing.proofs.Hearing.{asked-same}
+use Rattle.lines.specs.Line.{byte_at}
+use Rattle.hearing.specs.Hear.{kind_heard, alive_place, plainly}
+use Rattle.hearing.proofs.Hearing.{asked_same}
 use borrow.Author.Rules.{rules}
 use Rattle.hearing.proofs.without_alive.Statement.{statement}
 use Rattle.hearing.proofs.without_alive.Tie as tie
@@ -48,12 +48,12 @@ returns : tie.Need-returns
 unfolding plainly
 returns c =
     let a = c.before.before.before.before.before.before.before.before.before.args in
-    let kind = c.before.before.before.before.before.before.kind-heard.ensures ∙ ap (kindHeard a.device) c.before.before.before.before.before.before.before.byte_at.ensures in
-    asked-same a.n a.device c.ask.ensures kind c.before.before.before.before.before.byte-at2.ensures c.before.before.before.before.byte-at3.ensures c.before.before.before.byte-at4.ensures
-    (c.before.byte-at5.ensures ∙ ap (byteAt a.line.now) (c.before.before.alive-place.ensures ∙ ap (λ (k : ℕ). alivePlace k a.device) kind))
+    let kind = c.before.before.before.before.before.before.kind-heard.ensures ∙ ap (kind_heard a.device) c.before.before.before.before.before.before.before.byte_at.ensures in
+    asked_same a.n a.device c.ask.ensures kind c.before.before.before.before.before.byte-at2.ensures c.before.before.before.before.byte-at3.ensures c.before.before.before.byte-at4.ensures
+    (c.before.byte-at5.ensures ∙ ap (byte_at a.line.now) (c.before.before.alive-place.ensures ∙ ap (λ (k : ℕ). alive_place k a.device) kind))
 
-pub without-alive-spec : {M : Type 1} → statement M
-without-alive-spec =
+pub without_alive_spec : {M : Type 1} → statement M
+without_alive_spec =
     tie.close
     (tie.spec
     byte-at-requires

@@ -68,8 +68,8 @@ same-length-3 c = c.before.loop.invariant.0
 returns-3 : tie.Need-returns-3 invariant-loop decreases-loop
 returns-3 c = c.before.loop.invariant.1
 
-pub take-in-spec : {M : Type 1} → statement M
-take-in-spec =
+pub take_in_spec : {M : Type 1} → statement M
+take_in_spec =
     tie.close
     (tie.spec
     invariant-loop

@@ -5,8 +5,8 @@ use borrow.Author.Tests.{le-leb, lt-leb, eq-eqb, ne_eqb}
 use lib.ListN.{length}
 use Rattle.questions.specs.Shape.{shape_of}
 use Rattle.questions.specs.declared.question.Shape.{Shape}
-use Rattle.contents.proofs.Asked.{was-so, was-not}
-use Rattle.judging.specs.Judge.{screenRows, screenOf}
+use Rattle.contents.proofs.Asked.{was_so, was_not}
+use Rattle.judging.specs.Judge.{screen_rows, screen_of}
 use borrow.Author.Rules.{rules}
 use Rattle.judging.proofs.screen.Statement.{statement}
 use Rattle.judging.proofs.screen.Tie as tie
@@ -15,28 +15,28 @@ is-good-requires : tie.Need-is-good-requires
 is-good-requires c κs = search rules
 
 returns : tie.Need-returns
-unfolding screenOf screenRows
+unfolding screen_of screen_rows
 returns c =
-    let given = was-not c.before.is-good.ensures c.if1.true in
+    let given = was_not c.before.is-good.ensures c.if1.true in
     simp given
 
 shape-of-requires : tie.Need-shape-of-requires
 shape-of-requires c κs = search rules
 
 returns-2 : tie.Need-returns-2
-unfolding screenOf screenRows
+unfolding screen_of screen_rows
 returns-2 c =
     let a = c.before.before.before.before.before.args in
-    let good = was-so c.before.before.before.is-good.ensures c.before.before.if1.false in
+    let good = was_so c.before.before.before.is-good.ensures c.before.before.if1.false in
     let values = ap (λ (s : Shape). s.values) c.before.shape-of.ensures in
     let given = lt-leb (shape_of a.q).values a.room (omega (arith, values, c.if2.true)) in
     simp (good, given)
 
 returns-3 : tie.Need-returns-3
-unfolding screenOf screenRows
+unfolding screen_of screen_rows
 returns-3 c =
     let a = c.before.before.before.before.before.before.args in
-    let good = was-so c.before.before.before.before.is-good.ensures c.before.before.before.if1.false in
+    let good = was_so c.before.before.before.before.is-good.ensures c.before.before.before.if1.false in
     let values = ap (λ (s : Shape). s.values) c.before.before.shape-of.ensures in
     let enough = le-leb (shape_of a.q).values a.room (omega (arith, values, c.before.if2.false)) in
     let words = ap (λ (s : Shape). s.words) c.before.before.shape-of.ensures in
@@ -47,18 +47,18 @@ screen-words-requires : tie.Need-screen-words-requires
 screen-words-requires c κs = search rules
 
 returns-4 : tie.Need-returns-4
-unfolding screenOf screenRows
+unfolding screen_of screen_rows
 returns-4 c =
     let a = c.before.before.before.before.before.before.before.args in
-    let good = was-so c.before.before.before.before.before.is-good.ensures c.before.before.before.before.if1.false in
+    let good = was_so c.before.before.before.before.before.is-good.ensures c.before.before.before.before.if1.false in
     let values = ap (λ (s : Shape). s.values) c.before.before.before.shape-of.ensures in
     let enough = le-leb (shape_of a.q).values a.room (omega (arith, values, c.before.before.if2.false)) in
     let words = ap (λ (s : Shape). s.words) c.before.before.before.shape-of.ensures in
     let long = eq-eqb (length a.line.now) (shape_of a.q).words (c.before.if3.false ∙ words) in
     c.screen-words.ensures a.q a.room ∙ simp (good, enough, long)
 
-pub screen-spec : {M : Type 1} → statement M
-screen-spec =
+pub screen_spec : {M : Type 1} → statement M
+screen_spec =
     tie.close
     (tie.spec
     is-good-requires

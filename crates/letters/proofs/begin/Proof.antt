@@ -15,5 +15,5 @@ all-unheard-requires c κs = search rules
 returns : tie.Need-returns
 returns c = c.all-unheard.ensures ∙ ap (λ (write : Question). unheard write 0) c.before.ask.ensures
 
-pub begin-spec : {M : Type 1} → statement M
-begin-spec = tie.close (tie.spec ask-requires all-unheard-requires returns)
+pub begin_spec : {M : Type 1} → statement M
+begin_spec = tie.close (tie.spec ask-requires all-unheard-requires returns)

@@ -11,7 +11,7 @@ use borrow.Author.Rules.{rules}
 use Rattle.letters.specs.Letters.{verdict}
 use Rattle.letters.specs.declared.Span.{Span}
 use Rattle.letters.proofs.Between.{from, upto}
-use Rattle.letters.proofs.SoFar.{SoFar, none_yet, one_more, all-decided, none-decided}
+use Rattle.letters.proofs.SoFar.{SoFar, none_yet, one_more, all_decided, none_decided}
 use Rattle.letters.proofs.decide.Statement.{statement}
 use Rattle.letters.proofs.decide.Tie as tie
 
@@ -27,7 +27,7 @@ returns c =
     let a = c.before.before.before.before.before.args in
     let s = a.standing in
     ap (λ (l : List ℕ). record { write = s.write; mask = s.mask; letters = l })
-    (none-decided s.write s.mask a.q a.values.now s.letters c.if1.true (search rules))
+    (none_decided s.write s.mask a.q a.values.now s.letters c.if1.true (search rules))
 
 span-of-requires : tie.Need-span-of-requires invariant-loop decreases-loop
 span-of-requires c κs = search rules
@@ -94,10 +94,10 @@ returns-2 c =
     let s = a.standing in
     let loop = c.before.loop in
     ap (λ (l : List ℕ). record { write = s.write; mask = s.mask; letters = l })
-    (all-decided s.write s.mask a.q a.values.now s.letters loop.letters loop.at (omega arith) loop.invariant.2 loop.invariant.3)
+    (all_decided s.write s.mask a.q a.values.now s.letters loop.letters loop.at (omega arith) loop.invariant.2 loop.invariant.3)
 
-pub decide-spec : {M : Type 1} → statement M
-decide-spec =
+pub decide_spec : {M : Type 1} → statement M
+decide_spec =
     tie.close
     (tie.spec
     invariant-loop

@@ -1,7 +1,7 @@
 -- `value_for` meets its contract: the test of the kind picks the place, in the code as in the definition.
 use borrow.Author.Rules.{rules}
 use borrow.Author.Tests.{eq-eqb, ne_eqb}
-use Rattle.letters.specs.Letters.{valueFor}
+use Rattle.letters.specs.Letters.{value_for}
 use Rattle.letters.proofs.value_for.Statement.{statement}
 use Rattle.letters.proofs.value_for.Tie as tie
 
@@ -12,12 +12,12 @@ word-or-zero-requires-2 : tie.Need-word-or-zero-requires-2
 word-or-zero-requires-2 c κs = search rules
 
 returns : tie.Need-returns
-unfolding valueFor
+unfolding value_for
 returns c = simp (eq-eqb _ _ c.before.if1.true) c.word-or-zero.ensures
 
 returns-2 : tie.Need-returns-2
-unfolding valueFor
+unfolding value_for
 returns-2 c = simp (ne_eqb _ _ c.before.if1.false) c.word-or-zero2.ensures
 
-pub value-for-spec : {M : Type 1} → statement M
-value-for-spec = tie.close (tie.spec word-or-zero-requires word-or-zero-requires-2 returns returns-2)
+pub value_for_spec : {M : Type 1} → statement M
+value_for_spec = tie.close (tie.spec word-or-zero-requires word-or-zero-requires-2 returns returns-2)

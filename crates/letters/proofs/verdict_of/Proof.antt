@@ -12,5 +12,5 @@ returns c = sym (ap (λ (t : Bool). cond t S O) (eq-eqb _ _ c.if1.true))
 returns-2 : tie.Need-returns-2
 returns-2 c = sym (ap (λ (t : Bool). cond t S O) (ne_eqb _ _ c.if1.false))
 
-pub verdict-of-spec : {M : Type 1} → statement M
-verdict-of-spec = tie.close (tie.spec returns returns-2)
+pub verdict_of_spec : {M : Type 1} → statement M
+verdict_of_spec = tie.close (tie.spec returns returns-2)

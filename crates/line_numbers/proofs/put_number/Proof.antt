@@ -3,5 +3,5 @@ use borrow.Author.Rules.{rules}
 use Rattle.line_numbers.proofs.put_number.Statement.{statement}
 use Rattle.line_numbers.proofs.put_number.Tie as tie
 
-pub put-number-spec : {M : Type 1} → statement M
-put-number-spec = tie.close (tie.spec (λ c. search rules) (λ c. search rules) (λ c. search rules) (λ c. search rules))
+pub put_number_spec : {M : Type 1} → statement M
+put_number_spec = tie.close (tie.spec (λ c. search rules) (λ c. search rules) (λ c. search rules) (λ c. search rules))

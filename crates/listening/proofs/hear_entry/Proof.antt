@@ -5,9 +5,9 @@ use native.Mathlib.Omega.{arith}
 use lib.ListN.{length, take, drop, length-take, length-drop}
 use lib.Seq.{length-sets}
 use Rattle.packing.specs.Words.{words_of}
-use Rattle.readings.specs.Reading.{valuesTaken}
-use Rattle.judging.proofs.Accepted.{values-fit}
-use Rattle.listening.proofs.OneHeard.{line_read, heard-is}
+use Rattle.readings.specs.Reading.{values_taken}
+use Rattle.judging.proofs.Accepted.{values_fit}
+use Rattle.listening.proofs.OneHeard.{line_read, heard_is}
 use borrow.Author.Rules.{rules}
 use Rattle.listening.proofs.hear_entry.Statement.{statement}
 use Rattle.listening.proofs.hear_entry.Tie as tie
@@ -61,14 +61,14 @@ values-taken-requires c κs = search rules
 array-share-prefix-values : tie.Need-array-share-prefix-values
 array-share-prefix-values c =
     let a = c.before.before.before.before.before.before.before.before.before.before.before.before.before.args in
-    let fit = values-fit a.entry.question (take a.entry.words c.before.before.before.before.before.before.before.unpack.new.1.0) (length c.before.before.before.before.before.blank-values.result) in
-    omega (arith, c.values-taken.ensures ∙ ap valuesTaken c.before.before.read.ensures.says, fit.0)
+    let fit = values_fit a.entry.question (take a.entry.words c.before.before.before.before.before.before.before.unpack.new.1.0) (length c.before.before.before.before.before.blank-values.result) in
+    omega (arith, c.values-taken.ensures ∙ ap values_taken c.before.before.read.ensures.says, fit.0)
 
 slice-aggregate-hear : tie.Need-slice-aggregate-hear
 slice-aggregate-hear c =
     let a = c.before.before.before.before.before.before.before.before.before.before.before.before.before.before.args in
-    let fit = values-fit a.entry.question (take a.entry.words c.before.before.before.before.before.before.before.before.unpack.new.1.0) (length c.before.before.before.before.before.before.blank-values.result) in
-    simp length-take (omega (arith, c.before.values-taken.ensures ∙ ap valuesTaken c.before.before.before.read.ensures.says, fit.0, c.before.before.before.read.auto.1.1.0, c.before.before.before.before.before.before.blank-values.ensures))
+    let fit = values_fit a.entry.question (take a.entry.words c.before.before.before.before.before.before.before.before.unpack.new.1.0) (length c.before.before.before.before.before.before.blank-values.result) in
+    simp length-take (omega (arith, c.before.values-taken.ensures ∙ ap values_taken c.before.before.before.read.ensures.says, fit.0, c.before.before.before.read.auto.1.1.0, c.before.before.before.before.before.before.blank-values.ensures))
 
 hear-requires : tie.Need-hear-requires
 hear-requires c κs = search rules
@@ -90,11 +90,11 @@ returns c =
     let even : length part ≡ 2 * words = omega (arith, length-take (from + 2 * words - from) (drop from front), length-drop from front, c.before.before.before.before.before.before.before.before.before.before.before.before.before.before.before.before.before.requires.1) in
     let line = ap (take words) c.before.before.before.before.before.before.before.before.before.before.before.unpack.ensures ∙ line_read c.before.before.before.before.before.before.before.before.before.before.before.before.before.before.blank-line.result part words even (omega (arith, c.before.before.before.before.before.before.before.before.before.before.before.before.before.before.before.before.before.requires.0, c.before.before.before.before.before.before.before.before.before.before.before.before.before.before.blank-line.ensures))
     ∙ ap (λ (n : ℕ). words_of (take n (drop from front))) span in
-    heard-is a.standing c.before.before.hear.result a.entry.question a.entry.mask (words_of (take (2 * words) (drop from front))) _ c.before.before.before.before.before.before.before.before.before.blank-values.result _ c.before.before.before.before.before.before.read.result c.before.before.before.before.values-taken.result c.before.number_of.result (from + 2 * words) c.has-values.result
+    heard_is a.standing c.before.before.hear.result a.entry.question a.entry.mask (words_of (take (2 * words) (drop from front))) _ c.before.before.before.before.before.before.before.before.before.blank-values.result _ c.before.before.before.before.before.before.read.result c.before.before.before.before.values-taken.result c.before.number_of.result (from + 2 * words) c.has-values.result
     line c.before.before.before.before.before.before.before.before.before.blank-values.ensures c.before.before.before.before.before.before.read.ensures c.before.before.before.before.values-taken.ensures c.before.number_of.ensures c.has-values.ensures c.before.before.hear.ensures
 
-pub hear-entry-spec : {M : Type 1} → statement M
-hear-entry-spec =
+pub hear_entry_spec : {M : Type 1} → statement M
+hear_entry_spec =
     tie.close
     (tie.spec
     mul-end

@@ -14,5 +14,5 @@ returns c =
     let s = c.before.before.args.standing in
     ap (λ (x : Standing). record { number = 14; standing = s; question = x.write; accepted = false; size = 0 }) c.before.begin.ensures
 
-pub hear-nothing-spec : {M : Type 1} → statement M
-hear-nothing-spec = tie.close (tie.spec begin-requires returns)
+pub hear_nothing_spec : {M : Type 1} → statement M
+hear_nothing_spec = tie.close (tie.spec begin-requires returns)

@@ -21,5 +21,5 @@ returns-3 : tie.Need-returns-3
 unfolding mask_of
 returns-3 c = simp (lt-leb _ _ c.before.before.if1.false, sym c.before.is-write.ensures ∙ c.if2.false)
 
-pub mask-of-spec : {M : Type 1} → statement M
-mask-of-spec = tie.close (tie.spec returns is-write-requires returns-2 returns-3)
+pub mask_of_spec : {M : Type 1} → statement M
+mask_of_spec = tie.close (tie.spec returns is-write-requires returns-2 returns-3)

@@ -5,16 +5,16 @@ use native.Mathlib.Omega.{arith}
 use lib.ListN.{length, drop, length-drop}
 use borrow.Author.Tests.{not-true, not-false}
 use Rattle.ground.proofs.Lists.{part_to_end}
-use Rattle.jobs.specs.Format.{headSize}
-use Rattle.jobs.specs.Check.{words_in, sizeIn, goodEntry, goodEntries}
-use Rattle.jobs.proofs.Sizes.{field-bounds}
+use Rattle.jobs.specs.Format.{head_size}
+use Rattle.jobs.specs.Check.{words_in, size_in, good_entry, good_entries}
+use Rattle.jobs.proofs.Sizes.{field_bounds}
 use Rattle.jobs.proofs.GoodEntry.{good}
-use Rattle.jobs.proofs.Entries.{good-here, bad-here, no-more-good}
+use Rattle.jobs.proofs.Entries.{good_here, bad_here, no_more_good}
 use Rattle.opening.proofs.are_good_entries.Statement.{statement}
 use Rattle.opening.proofs.are_good_entries.Tie as tie
 
 abbrev invariant-loop : tie.invariant-loop
-invariant-loop header file at₀ at = (at ≤ length file) × (goodEntries header (drop at file) ≡ goodEntries header (drop headSize file))
+invariant-loop header file at₀ at = (at ≤ length file) × (good_entries header (drop at file) ≡ good_entries header (drop head_size file))
 
 abbrev decreases-loop : tie.decreases-loop
 decreases-loop header file at₀ at = length file - at
@@ -23,7 +23,7 @@ head-size-requires : tie.Need-head-size-requires invariant-loop decreases-loop
 head-size-requires c κs = tt
 
 loop-holds : tie.Need-loop-init invariant-loop decreases-loop
-loop-holds c = let a = c.before.before.args in (omega (arith, c.head-size.ensures, c.before.before.requires), ap (λ (k : ℕ). goodEntries a.header (drop k a.file.now)) c.head-size.ensures)
+loop-holds c = let a = c.before.before.args in (omega (arith, c.head-size.ensures, c.before.before.requires), ap (λ (k : ℕ). good_entries a.header (drop k a.file.now)) c.head-size.ensures)
 
 sub-is-good-entry : tie.Need-overflow-sub-is-good-entry invariant-loop decreases-loop
 sub-is-good-entry c = omega arith
@@ -42,8 +42,8 @@ returns c =
     let a = c.before.before.before.before.before.before.before.args in
     let file = a.file.now in
     let at = c.before.before.before.before.loop.at in
-    let bad = sym (c.before.is-good-entry.ensures ∙ ap (goodEntry a.header) (part_to_end file at)) ∙ not-true _ c.if1.true in
-    sym (sym c.before.before.before.before.loop.invariant.1 ∙ bad-here a.header file at c.before.before.before.loop-test.true bad)
+    let bad = sym (c.before.is-good-entry.ensures ∙ ap (good_entry a.header) (part_to_end file at)) ∙ not-true _ c.if1.true in
+    sym (sym c.before.before.before.before.loop.invariant.1 ∙ bad_here a.header file at c.before.before.before.loop-test.true bad)
 
 sub-size-in : tie.Need-overflow-sub-size-in invariant-loop decreases-loop
 sub-size-in c = omega arith
@@ -62,35 +62,35 @@ add_at c =
     let a = c.before.before.before.before.before.before.before.before.before.args in
     let file = a.file.now in
     let at = c.before.before.before.before.before.before.loop.at in
-    let is = good a.header (drop at file) (sym (c.before.before.before.is-good-entry.ensures ∙ ap (goodEntry a.header) (part_to_end file at)) ∙ not-false _ c.before.before.if1.false) in
-    omega (arith, c.size_in.ensures ∙ ap (sizeIn a.header.version) (part_to_end file at), is.whole, length-drop at file)
+    let is = good a.header (drop at file) (sym (c.before.before.before.is-good-entry.ensures ∙ ap (good_entry a.header) (part_to_end file at)) ∙ not-false _ c.before.before.if1.false) in
+    omega (arith, c.size_in.ensures ∙ ap (size_in a.header.version) (part_to_end file at), is.whole, length-drop at file)
 
 loop-less : tie.Need-loop-smaller invariant-loop decreases-loop
 loop-less c =
     let a = c.before.before.before.before.before.before.before.before.before.args in
     let file = a.file.now in
     let at = c.before.before.before.before.before.before.loop.at in
-    let size = c.size_in.ensures ∙ ap (sizeIn a.header.version) (part_to_end file at) in
-    omega (arith, size, (field-bounds a.header.version).0, c.before.before.before.before.before.loop-test.true)
+    let size = c.size_in.ensures ∙ ap (size_in a.header.version) (part_to_end file at) in
+    omega (arith, size, (field_bounds a.header.version).0, c.before.before.before.before.before.loop-test.true)
 
 loop-again : tie.Need-loop-preserved invariant-loop decreases-loop
 loop-again c =
     let a = c.before.before.before.before.before.before.before.before.before.args in
     let file = a.file.now in
     let at = c.before.before.before.before.before.before.loop.at in
-    let is = sym (c.before.before.before.is-good-entry.ensures ∙ ap (goodEntry a.header) (part_to_end file at)) ∙ not-false _ c.before.before.if1.false in
-    let size = c.size_in.ensures ∙ ap (sizeIn a.header.version) (part_to_end file at) in (
+    let is = sym (c.before.before.before.is-good-entry.ensures ∙ ap (good_entry a.header) (part_to_end file at)) ∙ not-false _ c.before.before.if1.false in
+    let size = c.size_in.ensures ∙ ap (size_in a.header.version) (part_to_end file at) in (
       omega (arith, size, (good a.header (drop at file) is).whole, length-drop at file),
-      ap (λ (k : ℕ). goodEntries a.header (drop (at + k) file)) size ∙ sym (good-here a.header file at c.before.before.before.before.before.loop-test.true is) ∙ c.before.before.before.before.before.before.loop.invariant.1,
+      ap (λ (k : ℕ). good_entries a.header (drop (at + k) file)) size ∙ sym (good_here a.header file at c.before.before.before.before.before.loop-test.true is) ∙ c.before.before.before.before.before.before.loop.invariant.1,
     )
 
 returns-2 : tie.Need-returns-2 invariant-loop decreases-loop
 returns-2 c =
     let a = c.before.before.before.before.args in
-    sym (sym c.before.loop.invariant.1 ∙ no-more-good a.header a.file.now c.before.loop.at c.loop-test.false)
+    sym (sym c.before.loop.invariant.1 ∙ no_more_good a.header a.file.now c.before.loop.at c.loop-test.false)
 
-pub are-good-entries-spec : {M : Type 1} → statement M
-are-good-entries-spec =
+pub are_good_entries_spec : {M : Type 1} → statement M
+are_good_entries_spec =
     tie.close
     (tie.spec
     invariant-loop

@@ -33,8 +33,8 @@ returns-3 c =
     sym (ap₂ (λ (t u : Bool). t && u && eqb (get_or file 2 0) 0x43)
     (eq-eqb (get_or file 0 0) 0x42 c.before.before.before.if1.false) (eq-eqb (get_or file 1 0) 0x4D c.before.if2.false))
 
-pub is-marked-spec : {M : Type 1} → statement M
-is-marked-spec =
+pub is_marked_spec : {M : Type 1} → statement M
+is_marked_spec =
     tie.close
     (tie.spec
     shared-slice-read-if1

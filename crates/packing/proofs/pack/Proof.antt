@@ -1,18 +1,18 @@
 -- `pack` meets its contract: the loop keeps the bytes of the words so far at the front.
-use Rattle.packing.proofs.Storing.{bytes_next, all-that-fit}
+use Rattle.packing.proofs.Storing.{bytes_next, all_that_fit}
 use mathlib.Core.Path.{◌≡◌, refl, ap, ◌∙◌}
 use mathlib.Core.List.{List}
 use Prim.Native.Nat.{ℕ, ◌-◌, ◌/◌, ◌≤◌}
 use native.Mathlib.Omega.{arith}
 use lib.ListN.{length, get_or, take}
 use lib.Seq.{sets}
-use Rattle.packing.specs.Words.{asBytes, withWord}
+use Rattle.packing.specs.Words.{as_bytes, with_word}
 use Rattle.packing.proofs.Storing.{bytes_next}
 use Rattle.packing.proofs.pack.Statement.{statement}
 use Rattle.packing.proofs.pack.Tie as tie
 
 abbrev invariant-loop : tie.invariant-loop
-invariant-loop words out₀ fitting k₀ out k = (k ≤ length words) × (k ≤ length out₀ / 2) × (length out ≡ length out₀) × (out ≡ sets out₀ 0 (asBytes (take k words)))
+invariant-loop words out₀ fitting k₀ out k = (k ≤ length words) × (k ≤ length out₀ / 2) × (length out ≡ length out₀) × (out ≡ sets out₀ 0 (as_bytes (take k words)))
 
 abbrev decreases-loop : tie.decreases-loop
 decreases-loop words out₀ fitting k₀ out k = fitting - k
@@ -21,7 +21,7 @@ least-requires : tie.Need-least-requires invariant-loop decreases-loop
 least-requires c κs = tt
 
 loop-holds : tie.Need-loop-init invariant-loop decreases-loop
-unfolding asBytes
+unfolding as_bytes
 loop-holds c = (omega arith, omega arith, refl, refl)
 
 mul-put-bytes : tie.Need-overflow-mul-put-bytes invariant-loop decreases-loop
@@ -48,7 +48,7 @@ loop-again c =
       omega (arith, most),
       omega (arith, most),
       c.before.before.put-bytes.auto.0 ∙ at.invariant.2,
-      c.before.before.put-bytes.ensures ∙ ap (λ (l : List ℕ). withWord l at.k (get_or a.words.now at.k 0)) at.invariant.3 ∙ bytes_next a.out.now a.words.now at.k (omega (arith, most)),
+      c.before.before.put-bytes.ensures ∙ ap (λ (l : List ℕ). with_word l at.k (get_or a.words.now at.k 0)) at.invariant.3 ∙ bytes_next a.out.now a.words.now at.k (omega (arith, most)),
     )
 
 same_length : tie.Need-same-length invariant-loop decreases-loop
@@ -58,10 +58,10 @@ returns : tie.Need-returns invariant-loop decreases-loop
 returns c =
     let at = c.before.loop in
     let a = c.before.before.before.before.before.args in
-    at.invariant.3 ∙ ap (λ (l : List ℕ). sets a.out.now 0 (asBytes l)) (all-that-fit a.words.now at.k (length a.out.now / 2) at.invariant.0 at.invariant.1 (omega (arith, c.before.before.least.ensures, c.loop-test.false)))
+    at.invariant.3 ∙ ap (λ (l : List ℕ). sets a.out.now 0 (as_bytes l)) (all_that_fit a.words.now at.k (length a.out.now / 2) at.invariant.0 at.invariant.1 (omega (arith, c.before.before.least.ensures, c.loop-test.false)))
 
-pub pack-spec : {M : Type 1} → statement M
-pack-spec =
+pub pack_spec : {M : Type 1} → statement M
+pack_spec =
     tie.close
     (tie.spec
     invariant-loop

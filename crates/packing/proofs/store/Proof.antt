@@ -5,7 +5,7 @@ use Prim.Native.Nat.{ℕ, ◌+◌, ◌-◌, ◌≤◌}
 use native.Mathlib.Omega.{arith}
 use lib.ListN.{length, get_or, take, set, length-set}
 use lib.Seq.{sets}
-use Rattle.packing.proofs.Storing.{all-beyond, stored_next, stored-all}
+use Rattle.packing.proofs.Storing.{all_beyond, stored_next, stored_all}
 use Rattle.packing.proofs.store.Statement.{statement}
 use Rattle.packing.proofs.store.Tie as tie
 
@@ -16,7 +16,7 @@ abbrev decreases-loop : tie.decreases-loop
 decreases-loop out₀ at bytes fitting i₀ out i = fitting - i
 
 returns : tie.Need-returns invariant-loop decreases-loop
-returns c = let a = c.before.before.before.args in sym (all-beyond a.out.now a.at a.bytes.now c.if1.true)
+returns c = let a = c.before.before.before.args in sym (all_beyond a.out.now a.at a.bytes.now c.if1.true)
 
 sub-least : tie.Need-overflow-sub-least invariant-loop decreases-loop
 sub-least c = omega arith
@@ -59,7 +59,7 @@ returns-2 : tie.Need-returns-2 invariant-loop decreases-loop
 returns-2 c =
     let at = c.before.loop in
     let a = c.before.before.before.before.before.before.args in
-    at.invariant.2 ∙ stored-all a.out.now a.at a.bytes.now at.i at.invariant.0 (omega (arith, c.before.before.least.ensures, c.loop-test.false))
+    at.invariant.2 ∙ stored_all a.out.now a.at a.bytes.now at.i at.invariant.0 (omega (arith, c.before.before.least.ensures, c.loop-test.false))
 
 pub store_spec : {M : Type 1} → statement M
 store_spec =

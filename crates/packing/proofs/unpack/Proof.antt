@@ -6,15 +6,15 @@ use native.Mathlib.Omega.{arith}
 use lib.ListN.{length, set, length-set}
 use lib.Seq.{sets}
 use Rattle.ground.specs.Sweep.{tabulated}
-use Rattle.ground.proofs.Lists.{filled_next, filled-room}
-use Rattle.packing.specs.Words.{wordAt}
-use Rattle.packing.proofs.Storing.{words-tabulated}
+use Rattle.ground.proofs.Lists.{filled_next, filled_room}
+use Rattle.packing.specs.Words.{word_at}
+use Rattle.packing.proofs.Storing.{words_tabulated}
 use Rattle.packing.proofs.unpack.Statement.{statement}
 use Rattle.packing.proofs.unpack.Tie as tie
 
 abbrev invariant-loop : tie.invariant-loop
 invariant-loop bytes out₀ words k₀ out k =
-    (words ≡ min (length bytes / 2) (length out₀)) × (k ≤ words) × (length out ≡ length out₀) × (out ≡ sets out₀ 0 (tabulated (wordAt bytes) k 0))
+    (words ≡ min (length bytes / 2) (length out₀)) × (k ≤ words) × (length out ≡ length out₀) × (out ≡ sets out₀ 0 (tabulated (word_at bytes) k 0))
 
 abbrev decreases-loop : tie.decreases-loop
 decreases-loop bytes out₀ words k₀ out k = words - k
@@ -47,7 +47,7 @@ loop-again c =
       at.invariant.0,
       omega (arith, c.before.loop-test.true),
       length-set at.out at.k c.word_at.result ∙ at.invariant.2,
-      ap₂ (λ (l : List ℕ) (w : ℕ). set l at.k w) at.invariant.3 c.word_at.ensures ∙ filled_next (wordAt a.bytes.now) a.out.now at.k,
+      ap₂ (λ (l : List ℕ) (w : ℕ). set l at.k w) at.invariant.3 c.word_at.ensures ∙ filled_next (word_at a.bytes.now) a.out.now at.k,
     )
 
 same_length : tie.Need-same-length invariant-loop decreases-loop
@@ -57,13 +57,13 @@ returns : tie.Need-returns invariant-loop decreases-loop
 returns c =
     let a = c.before.before.before.before.before.args in
     let at = c.before.loop in
-    let f = wordAt a.bytes.now in
+    let f = word_at a.bytes.now in
     let all : at.k ≡ min (length a.bytes.now / 2) (length a.out.now) = omega (arith, at.invariant.0, at.invariant.1, c.loop-test.false) in
-    at.invariant.3 ∙ ap (λ (n : ℕ). sets a.out.now 0 (tabulated f n 0)) all ∙ filled-room f a.out.now (length a.bytes.now / 2)
-    ∙ ap (sets a.out.now 0) (sym (words-tabulated a.bytes.now))
+    at.invariant.3 ∙ ap (λ (n : ℕ). sets a.out.now 0 (tabulated f n 0)) all ∙ filled_room f a.out.now (length a.bytes.now / 2)
+    ∙ ap (sets a.out.now 0) (sym (words_tabulated a.bytes.now))
 
-pub unpack-spec : {M : Type 1} → statement M
-unpack-spec =
+pub unpack_spec : {M : Type 1} → statement M
+unpack_spec =
     tie.close
     (tie.spec
     invariant-loop

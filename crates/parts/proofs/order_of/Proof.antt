@@ -18,5 +18,5 @@ returns-2 c =
     let a = c.before.before.args in
     sym (ap (λ (t : Bool). cond t a.device 0) (ne_eqb a.q.kind 3 c.if1.false))
 
-pub order-of-spec : {M : Type 1} → statement M
-order-of-spec = tie.close (tie.spec returns returns-2)
+pub order_of_spec : {M : Type 1} → statement M
+order_of_spec = tie.close (tie.spec returns returns-2)

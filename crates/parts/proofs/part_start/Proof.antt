@@ -3,7 +3,7 @@ use mathlib.Core.Path.{sym, ap₂, ◌∙◌}
 use Prim.Native.Nat.{ℕ, ◌+◌, ◌-◌, ◌*◌, ◌≤◌, ◌<◌}
 use native.Mathlib.Omega.{arith}
 use borrow.Author.Tests.{not-true, not-false}
-use Rattle.parts.proofs.Part.{inside, no_start, start-not-put-to}
+use Rattle.parts.proofs.Part.{inside, no_start, start_not_put_to}
 use Rattle.contents.proofs.RowLaws.{positive}
 use borrow.Author.Rules.{rules}
 use Rattle.parts.proofs.part_start.Statement.{statement}
@@ -15,10 +15,10 @@ there : (c : tie.After-order-of)
 there c =
     let a = c.before.before.before.before.before.before.args in
     let m = c.before.before.before.before.values-found in
-    let put-to = c.before.before.is-covered in
+    let put_to = c.before.before.is-covered in
     let at =
     inside a.q a.line.now a.device (omega (arith, m.ensures, positive m.result c.before.before.before.if1.false))
-    (sym put-to.ensures ∙ not-false put-to.result c.before.if2.false) in
+    (sym put_to.ensures ∙ not-false put_to.result c.before.if2.false) in
     (omega (arith, m.ensures, at.few), omega (arith, m.ensures, c.order-of.ensures, at.order))
 
 values-found-requires : tie.Need-values-found-requires
@@ -35,8 +35,8 @@ is-covered-requires c κs = search rules
 returns-2 : tie.Need-returns-2
 returns-2 c =
     let a = c.before.before.before.before.before.args in
-    let put-to = c.before.is-covered in
-    start-not-put-to a.q a.line.now a.device (sym put-to.ensures ∙ not-true put-to.result c.if2.true)
+    let put_to = c.before.is-covered in
+    start_not_put_to a.q a.line.now a.device (sym put_to.ensures ∙ not-true put_to.result c.if2.true)
 
 order-of-requires : tie.Need-order-of-requires
 order-of-requires c κs = search rules
@@ -57,13 +57,13 @@ returns-3 : tie.Need-returns-3
 returns-3 c =
     let a = c.before.before.before.before.before.before.args in
     let m = c.before.before.before.before.values-found in
-    let put-to = c.before.before.is-covered in
+    let put_to = c.before.before.is-covered in
     ap₂ (λ (m k : ℕ). 5 + 4 * (m - 1 - k)) m.ensures c.order-of.ensures
     ∙ sym (inside a.q a.line.now a.device (omega (arith, m.ensures, positive m.result c.before.before.before.if1.false))
-    (sym put-to.ensures ∙ not-false put-to.result c.before.if2.false)).start
+    (sym put_to.ensures ∙ not-false put_to.result c.before.if2.false)).start
 
-pub part-start-spec : {M : Type 1} → statement M
-part-start-spec =
+pub part_start_spec : {M : Type 1} → statement M
+part_start_spec =
     tie.close
     (tie.spec
     values-found-requires

@@ -4,7 +4,7 @@ use Prim.Native.Nat.{ℕ, ◌+◌, ◌-◌}
 use native.Mathlib.Omega.{arith}
 use lib.ListN.{take, drop}
 use Rattle.contents.proofs.RowLaws.{positive}
-use Rattle.parts.proofs.Part.{PartAt, part_at, no-start-no-part}
+use Rattle.parts.proofs.Part.{PartAt, part_at, no_start_no_part}
 use borrow.Author.Rules.{rules}
 use Rattle.parts.proofs.register_part.Statement.{statement}
 use Rattle.parts.proofs.register_part.Tie as tie
@@ -25,7 +25,7 @@ slice-aggregate-result c = search rules
 returns : tie.Need-returns
 returns c =
     let a = c.before.before.before.before.args in
-    no-start-no-part a.q a.line.now a.device (sym c.before.before.part-start.ensures ∙ c.before.if1.true)
+    no_start_no_part a.q a.line.now a.device (sym c.before.before.part-start.ensures ∙ c.before.if1.true)
 
 add-end : tie.Need-overflow-add-end
 add-end c = omega (arith, c.before.part-start.ensures, (there c).near)
@@ -50,8 +50,8 @@ returns-2 c =
     ap (λ (n : ℕ). take n (drop start.result a.line.now)) four
     ∙ ap (λ (s : ℕ). take 4 (drop s a.line.now)) start.ensures ∙ (there c.before).part
 
-pub register-part-spec : {M : Type 1} → statement M
-register-part-spec =
+pub register_part_spec : {M : Type 1} → statement M
+register_part_spec =
     tie.close
     (tie.spec
     part-start-requires

@@ -6,18 +6,18 @@ use native.Mathlib.Omega.{arith}
 use lib.ListN.{length-replicate}
 use Rattle.questions.specs.Shape.{shape_of}
 use Rattle.questions.specs.declared.question.Question.{Question}
-use Rattle.readings.specs.Reading.{valuesTaken}
-use Rattle.judging.specs.Judge.{judgeOf}
-use Rattle.judging.proofs.Bounds.{room-enough, enough-room}
+use Rattle.readings.specs.Reading.{values_taken}
+use Rattle.judging.specs.Judge.{judge_of}
+use Rattle.judging.proofs.Bounds.{room_enough, enough_room}
 use borrow.Author.Rules.{rules}
 use Rattle.parts.proofs.values_found.Statement.{statement}
 use Rattle.parts.proofs.values_found.Tie as tie
 
-room-for-all : (q : Question) (line : List ℕ) → judgeOf q line 32 ≡ judgeOf q line (shape_of q).values
-room-for-all q line =
+room_for_all : (q : Question) (line : List ℕ) → judge_of q line 32 ≡ judge_of q line (shape_of q).values
+room_for_all q line =
     let more = (shape_of q).values + 32 in
     let least : 32 ≡ min more 32 = omega arith in
-    ap (judgeOf q line) least ∙ room-enough q line more ∙ enough-room q line more (omega arith)
+    ap (judge_of q line) least ∙ room_enough q line more ∙ enough_room q line more (omega arith)
 
 slice-aggregate-read : tie.Need-slice-aggregate-read
 slice-aggregate-read c = search rules
@@ -32,8 +32,8 @@ returns : tie.Need-returns
 returns c =
     let a = c.before.before.before.before.before.args in
     c.values-taken.ensures
-    ∙ ap valuesTaken (c.before.before.read.ensures.says ∙ ap (judgeOf a.q a.line.now) (length-replicate {A = ℕ} 32 0) ∙ room-for-all a.q a.line.now)
+    ∙ ap values_taken (c.before.before.read.ensures.says ∙ ap (judge_of a.q a.line.now) (length-replicate {A = ℕ} 32 0) ∙ room_for_all a.q a.line.now)
 
-pub values-found-spec : {M : Type 1} → statement M
-values-found-spec =
+pub values_found_spec : {M : Type 1} → statement M
+values_found_spec =
     tie.close (tie.spec slice-aggregate-read read-requires values-taken-requires returns)

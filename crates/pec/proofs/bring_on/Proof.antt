@@ -5,9 +5,9 @@ use Prim.Native.Nat.{ℕ}
 use native.Mathlib.Nat.{zero-add}
 use lib.Bits.{bit_xor}
 use lib.ListN.{get_or}
-use Rattle.ground.proofs.Sweep.{tabulated-at}
+use Rattle.ground.proofs.Sweep.{tabulated_at}
 use Rattle.remainder.specs.Register.{times}
-use Rattle.pec.specs.Pec.{bitStep}
+use Rattle.pec.specs.Pec.{bit_step}
 use Rattle.pec.specs.Moved.{moved}
 use borrow.Author.Rules.{rules}
 use Rattle.pec.proofs.bring_on.Statement.{statement}
@@ -21,8 +21,8 @@ unfolding moved
 returns c =
     let a = c.before.args in
     ap (λ (x : ℕ). bit_xor x a.byte)
-    (ap (λ (t : List ℕ). get_or t a.before 0) c.before.requires ∙ tabulated-at (times 32 bitStep) 256 0 a.before c.before.ranges.before.fits
-    ∙ ap (times 32 bitStep) (zero-add a.before))
+    (ap (λ (t : List ℕ). get_or t a.before 0) c.before.requires ∙ tabulated_at (times 32 bit_step) 256 0 a.before c.before.ranges.before.fits
+    ∙ ap (times 32 bit_step) (zero-add a.before))
 
-pub bring-on-spec : {M : Type 1} → statement M
-bring-on-spec = tie.close (tie.spec element-copy-out-result returns)
+pub bring_on_spec : {M : Type 1} → statement M
+bring_on_spec = tie.close (tie.spec element-copy-out-result returns)

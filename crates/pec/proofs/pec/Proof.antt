@@ -6,16 +6,16 @@ use native.Mathlib.Omega.{arith}
 use lib.Bits.{bit_xor}
 use lib.ListN.{length, get_or, drop}
 use Rattle.remainder.specs.Register.{run}
-use Rattle.pec.specs.Pec.{byteStep, pecOf}
+use Rattle.pec.specs.Pec.{byte_step, pec_of}
 use Rattle.pec.specs.Moved.{moved}
-use Rattle.pec.proofs.Fours.{first-four, next-four}
+use Rattle.pec.proofs.Fours.{first_four, next_four}
 use borrow.Author.Rules.{rules}
 use Rattle.pec.proofs.pec.Statement.{statement}
 use Rattle.pec.proofs.pec.Tie as tie
 
 abbrev invariant-loop : tie.invariant-loop
 invariant-loop bytes remainders moved a₀ b₀ c₀ d₀ i₀ a b c d i =
-    (i ≤ length bytes) × (run byteStep (run byteStep 0 (a ∷ b ∷ c ∷ d ∷ [])) (drop i bytes) ≡ pecOf bytes)
+    (i ≤ length bytes) × (run byte_step (run byte_step 0 (a ∷ b ∷ c ∷ d ∷ [])) (drop i bytes) ≡ pec_of bytes)
 
 abbrev decreases-loop : tie.decreases-loop
 decreases-loop bytes remainders moved a₀ b₀ c₀ d₀ i₀ a b c d i = length bytes - i
@@ -27,7 +27,7 @@ take-in-from-requires : tie.Need-take-in-from-requires invariant-loop decreases-
 take-in-from-requires c κs = c.before.before.remainders.ensures
 
 returns : tie.Need-returns invariant-loop decreases-loop
-unfolding pecOf
+unfolding pec_of
 returns c = c.take-in-from.ensures
 
 moved-states-requires : tie.Need-moved-states-requires invariant-loop decreases-loop
@@ -46,7 +46,7 @@ shared-slice-read-d : tie.Need-shared-slice-read-d invariant-loop decreases-loop
 shared-slice-read-d c = omega arith
 
 loop-holds : tie.Need-loop-init invariant-loop decreases-loop
-loop-holds c = (omega arith, first-four c.before.before.before.before.before.before.before.before.args.bytes.now c.before.before.before.before.before.if1.false)
+loop-holds c = (omega arith, first_four c.before.before.before.before.before.before.before.before.args.bytes.now c.before.before.before.before.before.if1.false)
 
 sub-loop : tie.Need-overflow-sub-loop invariant-loop decreases-loop
 sub-loop c = omega arith
@@ -96,11 +96,11 @@ loop-again c =
     let at = c.before.before.before.before.before.before.before.before.before.before.before.before.before.loop in
     let room : at.i + 4 ≤ length l = omega (arith, c.before.before.before.before.before.before.before.before.before.before.before.before.loop-test.true, at.invariant.0) in (
       omega arith,
-      ap₂ (λ (s : ℕ) (rest : List ℕ). run byteStep s rest)
-          (ap₂ (λ (x y : ℕ). run byteStep 0 (x ∷ y ∷ c.before.before.before.bring-on3.result ∷ c.bring-on4.result ∷ [])) c.before.before.before.before.before.before.before.before.before.bring-on.ensures c.before.before.before.before.before.before.bring-on2.ensures
-          ∙ ap₂ (λ (x y : ℕ). run byteStep 0 (bit_xor (moved at.a) (get_or l at.i 0) ∷ bit_xor (moved at.b) (get_or l (at.i + 1) 0) ∷ x ∷ y ∷ [])) c.before.before.before.bring-on3.ensures c.bring-on4.ensures)
+      ap₂ (λ (s : ℕ) (rest : List ℕ). run byte_step s rest)
+          (ap₂ (λ (x y : ℕ). run byte_step 0 (x ∷ y ∷ c.before.before.before.bring-on3.result ∷ c.bring-on4.result ∷ [])) c.before.before.before.before.before.before.before.before.before.bring-on.ensures c.before.before.before.before.before.before.bring-on2.ensures
+          ∙ ap₂ (λ (x y : ℕ). run byte_step 0 (bit_xor (moved at.a) (get_or l at.i 0) ∷ bit_xor (moved at.b) (get_or l (at.i + 1) 0) ∷ x ∷ y ∷ [])) c.before.before.before.bring-on3.ensures c.bring-on4.ensures)
           refl
-          ∙ next-four at.a at.b at.c at.d l at.i room
+          ∙ next_four at.a at.b at.c at.d l at.i room
           ∙ at.invariant.1,
     )
 
@@ -117,10 +117,10 @@ returns-2 : tie.Need-returns-2 invariant-loop decreases-loop
 returns-2 c =
     let l = c.before.before.before.before.before.before.before.before.before.before.before.before.before.before.before.args.bytes.now in
     let at = c.before.before.before.before.before.before.loop in
-    c.take-in-from3.ensures ∙ ap (λ (s : ℕ). run byteStep s (drop at.i l)) c.before.before.take-in-from2.ensures ∙ at.invariant.1
+    c.take-in-from3.ensures ∙ ap (λ (s : ℕ). run byte_step s (drop at.i l)) c.before.before.take-in-from2.ensures ∙ at.invariant.1
 
-pub pec-spec : {M : Type 1} → statement M
-pec-spec =
+pub pec_spec : {M : Type 1} → statement M
+pec_spec =
     tie.close
     (tie.spec
     invariant-loop

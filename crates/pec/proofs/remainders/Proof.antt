@@ -1,13 +1,13 @@
 -- `remainders` meets its contract: the table is computed from its rule, all of it at once.
 use mathlib.Core.Path.{refl}
 use Rattle.remainder.specs.Register.{times}
-use Rattle.pec.specs.Pec.{bitStep}
+use Rattle.pec.specs.Pec.{bit_step}
 use Rattle.pec.proofs.remainders.Statement.{statement}
 use Rattle.pec.proofs.remainders.Tie as tie
 
 returns : tie.Need-returns
-unfolding times bitStep
+unfolding times bit_step
 returns c = refl
 
-pub remainders-spec : {M : Type 1} → statement M
-remainders-spec = tie.close (tie.spec returns)
+pub remainders_spec : {M : Type 1} → statement M
+remainders_spec = tie.close (tie.spec returns)

@@ -1,8 +1,8 @@
 -- `step` meets its contract: its shifts make of each of the 256 states what eight bits do.
 use mathlib.Core.Path.{refl}
 use Rattle.remainder.specs.Register.{times}
-use Rattle.pec.specs.Pec.{bitStep}
-use Rattle.pec.proofs.Byte.{eightBits, shifts, by-shifts, folded_fits, up_fits, down_lt}
+use Rattle.pec.specs.Pec.{bit_step}
+use Rattle.pec.proofs.Byte.{eight_bits, shifts, by_shifts, folded_fits, up_fits, down_lt}
 use mir.Syntax.{w32}
 use borrow.Author.Rules.{rules}
 use Rattle.pec.proofs.step.Statement.{statement}
@@ -25,8 +25,8 @@ cast-result : tie.Need-overflow-cast-result
 cast-result c = search (rules, down_lt)
 
 returns : tie.Need-returns
-unfolding shifts eightBits times bitStep
-returns c = by-shifts _ _ _ _ _ _ c.args.crc c.args.byte c.ranges.crc.fits c.ranges.byte.fits refl
+unfolding shifts eight_bits times bit_step
+returns c = by_shifts _ _ _ _ _ _ c.args.crc c.args.byte c.ranges.crc.fits c.ranges.byte.fits refl
 
 pub step_spec : {M : Type 1} → statement M
 step_spec = tie.close (tie.spec cast-x mul-q mul-q-2 mul-q-3 cast-result returns)

@@ -30,5 +30,5 @@ returns-3 c =
     let a = c.before.before.before.before.before.before.before.before.before.before.before.args in
     printed a.version a.n a.numbers.now a.standing a.text.now (omega arith) (omega (arith, c.before.before.before.before.before.before.lay.ensures.up)) c.before.before.lay2.ensures
 
-pub print-spec : {M : Type 1} → statement M
-print-spec = tie.close (tie.spec returns slice-aggregate-lay lay-requires returns-2 lay-requires-2 same_length returns-3)
+pub print_spec : {M : Type 1} → statement M
+print_spec = tie.close (tie.spec returns slice-aggregate-lay lay-requires returns-2 lay-requires-2 same_length returns-3)

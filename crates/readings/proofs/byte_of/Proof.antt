@@ -1,7 +1,7 @@
 -- `byte_of` meets its contract: a refusal by its row, an accepted reading by one law.
 use mathlib.Core.Path.{refl}
 use Rattle.readings.specs.Reading.{byte_of}
-use Rattle.readings.proofs.Others.{all-zero}
+use Rattle.readings.proofs.Others.{all_zero}
 use borrow.Author.Rules.{rules}
 use Rattle.readings.proofs.byte_of.Statement.{statement}
 use Rattle.readings.proofs.byte_of.Tie as tie
@@ -16,7 +16,7 @@ returns : tie.Need-returns
 returns c = search rules
 
 returns-2 : tie.Need-returns-2
-returns-2 c = all-zero byte_of (λ n. refl) refl (λ m. refl) c.before.args.reading c.match.keys2
+returns-2 c = all_zero byte_of (λ n. refl) refl (λ m. refl) c.before.args.reading c.match.keys2
 
-pub byte-of-spec : {M : Type 1} → statement M
-byte-of-spec = tie.close (tie.spec enum-known-reading refusal-byte-requires returns returns-2)
+pub byte_of_spec : {M : Type 1} → statement M
+byte_of_spec = tie.close (tie.spec enum-known-reading refusal-byte-requires returns returns-2)

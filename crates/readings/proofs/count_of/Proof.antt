@@ -1,5 +1,5 @@
 -- `count_of` meets its contract: the named reading by itself, the others by one law.
-use Rattle.readings.proofs.Others.{no-count}
+use Rattle.readings.proofs.Others.{no_count}
 use borrow.Author.Rules.{rules}
 use Rattle.readings.proofs.count_of.Statement.{statement}
 use Rattle.readings.proofs.count_of.Tie as tie
@@ -11,7 +11,7 @@ returns : tie.Need-returns
 returns c = search rules
 
 returns-2 : tie.Need-returns-2
-returns-2 c = no-count c.before.args.reading c.match.keys2
+returns-2 c = no_count c.before.args.reading c.match.keys2
 
-pub count-of-spec : {M : Type 1} → statement M
-count-of-spec = tie.close (tie.spec enum-known-reading returns returns-2)
+pub count_of_spec : {M : Type 1} → statement M
+count_of_spec = tie.close (tie.spec enum-known-reading returns returns-2)

@@ -1,7 +1,7 @@
 -- `packed_reading` meets its contract: no sum runs over, since no reading has both of what is added.
 use Prim.Native.Nat.{◌^◌}
 use native.Mathlib.Omega.{arith}
-use Rattle.readings.proofs.Packed.{byte-or-count, place-or-values}
+use Rattle.readings.proofs.Packed.{byte_or_count, place_or_values}
 use borrow.Author.Rules.{rules}
 use Rattle.readings.proofs.packed_reading.Statement.{statement}
 use Rattle.readings.proofs.packed_reading.Tie as tie
@@ -22,7 +22,7 @@ add-upper : tie.Need-overflow-add-upper
 add-upper c =
     let place = c.before.place_of.ensures in
     let values = c.values-taken.ensures in
-    let sum = place-or-values c.before.before.before.before.args.reading (2 ^ 64) (omega (arith, place)) (omega (arith, values)) in
+    let sum = place_or_values c.before.before.before.before.args.reading (2 ^ 64) (omega (arith, place)) (omega (arith, values)) in
     record { fits = omega (arith, sum, place, values) }
 
 number-of-requires : tie.Need-number-of-requires
@@ -56,14 +56,14 @@ add-result-3 : tie.Need-overflow-add-result-3
 add-result-3 c =
     let byte = c.before.before.before.before.byte_of.ensures in
     let count = c.before.before.before.count_of.ensures in
-    let sum = byte-or-count c.before.before.before.before.before.args.reading 256 (omega (arith, byte)) (omega (arith, count)) in
+    let sum = byte_or_count c.before.before.before.before.before.args.reading 256 (omega (arith, byte)) (omega (arith, count)) in
     record { fits = omega (arith, sum, byte, count) }
 
 returns : tie.Need-returns
 returns c = search rules
 
-pub packed-reading-spec : {M : Type 1} → statement M
-packed-reading-spec =
+pub packed_reading_spec : {M : Type 1} → statement M
+packed_reading_spec =
     tie.close
     (tie.spec
     byte-of-requires

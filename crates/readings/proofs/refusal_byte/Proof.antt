@@ -19,5 +19,5 @@ returns-2 c = search rules
 returns-3 : tie.Need-returns-3
 returns-3 c = no_byte c.before.args.why c.match.keys3
 
-pub refusal-byte-spec : {M : Type 1} → statement M
-refusal-byte-spec = tie.close (tie.spec enum-known-why enum-known-why-2 returns returns-2 returns-3)
+pub refusal_byte_spec : {M : Type 1} → statement M
+refusal_byte_spec = tie.close (tie.spec enum-known-why enum-known-why-2 returns returns-2 returns-3)

@@ -19,5 +19,5 @@ returns-2 c = search rules
 returns-3 : tie.Need-returns-3
 returns-3 c = no_place c.before.args.why c.match.keys3
 
-pub refusal-place-spec : {M : Type 1} → statement M
-refusal-place-spec = tie.close (tie.spec enum-known-why enum-known-why-2 returns returns-2 returns-3)
+pub refusal_place_spec : {M : Type 1} → statement M
+refusal_place_spec = tie.close (tie.spec enum-known-why enum-known-why-2 returns returns-2 returns-3)

@@ -1,5 +1,5 @@
 -- `values_taken` meets its contract: the named reading by itself, the others by one law.
-use Rattle.readings.proofs.Others.{no-values}
+use Rattle.readings.proofs.Others.{no_values}
 use borrow.Author.Rules.{rules}
 use Rattle.readings.proofs.values_taken.Statement.{statement}
 use Rattle.readings.proofs.values_taken.Tie as tie
@@ -11,7 +11,7 @@ returns : tie.Need-returns
 returns c = search rules
 
 returns-2 : tie.Need-returns-2
-returns-2 c = no-values c.before.args.reading c.match.keys2
+returns-2 c = no_values c.before.args.reading c.match.keys2
 
-pub values-taken-spec : {M : Type 1} → statement M
-values-taken-spec = tie.close (tie.spec enum-known-reading returns returns-2)
+pub values_taken_spec : {M : Type 1} → statement M
+values_taken_spec = tie.close (tie.spec enum-known-reading returns returns-2)

@@ -1,7 +1,7 @@
 -- `asked_byte` meets its contract: each arm is the byte of its place.
 use Rattle.std.proofs.Common.{sym, ap, ◌∙◌, rules}
-use Rattle.reasons.specs.Reason.{askedByte}
-use Rattle.reasons.proofs.Told.{the-fourth}
+use Rattle.reasons.specs.Reason.{asked_byte}
+use Rattle.reasons.proofs.Told.{the_fourth}
 use Rattle.reasons.proofs.asked_byte.Statement.{statement}
 use Rattle.reasons.proofs.asked_byte.Tie as tie
 
@@ -18,18 +18,18 @@ cast-result-2 : tie.Need-overflow-cast-result-2
 cast-result-2 c = search rules
 
 returns : tie.Need-returns
-returns c = c.first_byte.ensures ∙ sym (ap (askedByte c.before.before.args.q) c.before.match.keys1)
+returns c = c.first_byte.ensures ∙ sym (ap (asked_byte c.before.before.args.q) c.before.match.keys1)
 
 returns-2 : tie.Need-returns-2
-returns-2 c = c.second-byte.ensures ∙ sym (ap (askedByte c.before.before.args.q) c.before.match.keys2)
+returns-2 c = c.second-byte.ensures ∙ sym (ap (asked_byte c.before.before.args.q) c.before.match.keys2)
 
 returns-3 : tie.Need-returns-3
-returns-3 c = sym (ap (askedByte c.before.args.q) c.match.keys3)
+returns-3 c = sym (ap (asked_byte c.before.args.q) c.match.keys3)
 
 returns-4 : tie.Need-returns-4
 returns-4 c =
     let rest = c.match.rest in
-    the-fourth c.before.args.q c.before.args.i rest.0.0.1 rest.0.1 rest.1
+    the_fourth c.before.args.q c.before.args.i rest.0.0.1 rest.0.1 rest.1
 
-pub asked-byte-spec : {M : Type 1} → statement M
-asked-byte-spec = tie.close (tie.spec first-byte-requires second-byte-requires cast-result cast-result-2 returns returns-2 returns-3 returns-4)
+pub asked_byte_spec : {M : Type 1} → statement M
+asked_byte_spec = tie.close (tie.spec first-byte-requires second-byte-requires cast-result cast-result-2 returns returns-2 returns-3 returns-4)

@@ -3,7 +3,7 @@ use Rattle.std.proofs.Common.{ℕ, ◌+◌, ◌%◌, ap, ◌∙◌, arith, rules
 use Rattle.questions.specs.declared.question.Shape.{Shape}
 use Rattle.questions.proofs.Good.{covered_le}
 use Rattle.readings.specs.declared.Refusal.TheVariants as row
-use Rattle.reasons.specs.Reason.{atByte}
+use Rattle.reasons.specs.Reason.{at_byte}
 use Rattle.reasons.specs.declared.Right.TheVariants.{One}
 use Rattle.reasons.proofs.at_alive.Statement.{statement}
 use Rattle.reasons.proofs.at_alive.Tie as tie
@@ -29,8 +29,8 @@ returns : tie.Need-returns
 returns c =
     let a = c.before.before.before.before.before.args in
     let line = a.line.now in
-    c.at_byte.ensures ∙ ap (λ (b : ℕ). atByte line row.Alive (c.before.before.before.shape_of.result.covered + 1) (One b)) c.before.before.wrapping-add-u8.ensures
-    ∙ ap (λ (s : Shape). atByte line row.Alive (s.covered + 1) (One ((a.q.seed + s.acting) % 256))) c.before.before.before.shape_of.ensures
+    c.at_byte.ensures ∙ ap (λ (b : ℕ). at_byte line row.Alive (c.before.before.before.shape_of.result.covered + 1) (One b)) c.before.before.wrapping-add-u8.ensures
+    ∙ ap (λ (s : Shape). at_byte line row.Alive (s.covered + 1) (One ((a.q.seed + s.acting) % 256))) c.before.before.before.shape_of.ensures
 
-pub at-alive-spec : {M : Type 1} → statement M
-at-alive-spec = tie.close (tie.spec shape-of-requires wrapping-add-u8-requires add-at-byte cast-t7 at-byte-requires returns)
+pub at_alive_spec : {M : Type 1} → statement M
+at_alive_spec = tie.close (tie.spec shape-of-requires wrapping-add-u8-requires add-at-byte cast-t7 at-byte-requires returns)

@@ -16,5 +16,5 @@ returns c =
     let a = c.before.before.args in
     ap (λ (b : ℕ). found a.why (Byte a.i) b a.right) c.byte_at.ensures
 
-pub at-byte-spec : {M : Type 1} → statement M
-at-byte-spec = tie.close (tie.spec byte-at-requires cast-t7 returns)
+pub at_byte_spec : {M : Type 1} → statement M
+at_byte_spec = tie.close (tie.spec byte-at-requires cast-t7 returns)

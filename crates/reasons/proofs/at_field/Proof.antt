@@ -18,5 +18,5 @@ returns c =
     let a = c.before.before.args in
     ap₂ (λ (stood : ℕ) (right : Right). found row.Question (Asked a.field) stood right) c.before.field_in.ensures c.field-right.ensures
 
-pub at-field-spec : {M : Type 1} → statement M
-at-field-spec = tie.close (tie.spec field-in-requires field-right-requires returns)
+pub at_field_spec : {M : Type 1} → statement M
+at_field_spec = tie.close (tie.spec field-in-requires field-right-requires returns)

@@ -15,5 +15,5 @@ returns c =
     let a = c.before.before.args in
     ap (λ (s : Shape). found a.why Whole (length a.line.now) (One s.words)) c.shape_of.ensures
 
-pub at-line-spec : {M : Type 1} → statement M
-at-line-spec = tie.close (tie.spec shape-of-requires returns)
+pub at_line_spec : {M : Type 1} → statement M
+at_line_spec = tie.close (tie.spec shape-of-requires returns)

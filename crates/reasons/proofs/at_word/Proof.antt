@@ -16,5 +16,5 @@ returns c =
     let a = c.before.before.args in
     ap (λ (w : ℕ). found a.why (Word a.i) w a.right) c.word-or-zero.ensures
 
-pub at-word-spec : {M : Type 1} → statement M
-at-word-spec = tie.close (tie.spec word-or-zero-requires cast-t7 returns)
+pub at_word_spec : {M : Type 1} → statement M
+at_word_spec = tie.close (tie.spec word-or-zero-requires cast-t7 returns)

@@ -32,5 +32,5 @@ returns-5 c =
       le-leb _ _ c.if4.false,
     )
 
-pub bad-field-spec : {M : Type 1} → statement M
-bad-field-spec = tie.close (tie.spec returns returns-2 returns-3 returns-4 returns-5)
+pub bad_field_spec : {M : Type 1} → statement M
+bad_field_spec = tie.close (tie.spec returns returns-2 returns-3 returns-4 returns-5)

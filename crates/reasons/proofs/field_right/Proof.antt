@@ -1,6 +1,6 @@
 -- `field_right` meets its contract: only the device is looked into.
 use Rattle.std.proofs.Common.{sym, ap, ◌∙◌, rules}
-use Rattle.reasons.specs.Reason.{fieldRight}
+use Rattle.reasons.specs.Reason.{field_right}
 use Rattle.reasons.proofs.field_right.Statement.{statement}
 use Rattle.reasons.proofs.field_right.Tie as tie
 
@@ -31,7 +31,7 @@ returns-3 c = search rules
 returns-4 : tie.Need-returns-4
 returns-4 c =
     let a = c.before.before.before.args in
-    c.one-device.ensures ∙ sym (ap (fieldRight a.q) c.before.enum-told4.given.1)
+    c.one_device.ensures ∙ sym (ap (field_right a.q) c.before.enum-told4.given.1)
 
-pub field-right-spec : {M : Type 1} → statement M
-field-right-spec = tie.close (tie.spec enum_told enum-told-2 enum-told-3 enum-told-4 one-device-requires returns returns-2 returns-3 returns-4)
+pub field_right_spec : {M : Type 1} → statement M
+field_right_spec = tie.close (tie.spec enum_told enum-told-2 enum-told-3 enum-told-4 one-device-requires returns returns-2 returns-3 returns-4)

@@ -13,5 +13,5 @@ cast-result c = search rules
 returns : tie.Need-returns
 returns c = ap (λ (s : Shape). s.first) c.before.shape_of.ensures
 
-pub first-byte-spec : {M : Type 1} → statement M
-first-byte-spec = tie.close (tie.spec shape-of-requires cast-result returns)
+pub first_byte_spec : {M : Type 1} → statement M
+first_byte_spec = tie.close (tie.spec shape-of-requires cast-result returns)

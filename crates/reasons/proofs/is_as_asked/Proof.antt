@@ -15,5 +15,5 @@ asked-byte-requires c κs = search rules
 returns : tie.Need-returns
 returns c = ap₂ eqb c.before.byte_at.ensures c.asked-byte.ensures
 
-pub is-as-asked-spec : {M : Type 1} → statement M
-is-as-asked-spec = tie.close (tie.spec byte-at-requires cast-result asked-byte-requires returns)
+pub is_as_asked_spec : {M : Type 1} → statement M
+is_as_asked_spec = tie.close (tie.spec byte-at-requires cast-result asked-byte-requires returns)

@@ -12,5 +12,5 @@ sub-result c = search rules
 returns-2 : tie.Need-returns-2
 returns-2 c = omega (arith, length-drop 1 c.before.args.line.now)
 
-pub last-place-spec : {M : Type 1} → statement M
-last-place-spec = tie.close (tie.spec returns sub-result returns-2)
+pub last_place_spec : {M : Type 1} → statement M
+last_place_spec = tie.close (tie.spec returns sub-result returns-2)

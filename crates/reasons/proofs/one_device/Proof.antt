@@ -10,5 +10,5 @@ returns c = sym (ap (λ (t : Bool). cond t (One 0) Several) (eq-eqb c.before.bef
 returns-2 : tie.Need-returns-2
 returns-2 c = sym (ap (λ (t : Bool). cond t (One 0) Several) (ne_eqb c.before.before.args.q.n 1 c.if1.false))
 
-pub one-device-spec : {M : Type 1} → statement M
-one-device-spec = tie.close (tie.spec returns returns-2)
+pub one_device_spec : {M : Type 1} → statement M
+one_device_spec = tie.close (tie.spec returns returns-2)

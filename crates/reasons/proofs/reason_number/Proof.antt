@@ -18,5 +18,5 @@ returns c = search rules
 returns-2 : tie.Need-returns-2
 returns-2 c = search rules
 
-pub reason-number-spec : {M : Type 1} → statement M
-reason-number-spec = tie.close (tie.spec enum_told enum-known-reason number-of-requires returns returns-2)
+pub reason_number_spec : {M : Type 1} → statement M
+reason_number_spec = tie.close (tie.spec enum_told enum-known-reason number-of-requires returns returns-2)

@@ -6,7 +6,7 @@ use native.Mathlib.Omega.{arith}
 use lib.ListN.{length, set, length-set}
 use lib.Seq.{sets}
 use Rattle.ground.specs.Sweep.{tabulated}
-use Rattle.ground.proofs.Lists.{filled_next, filled-whole}
+use Rattle.ground.proofs.Lists.{filled_next, filled_whole}
 use Rattle.registers.specs.Memory.{fresh}
 use Rattle.registers.proofs.fill.Statement.{statement}
 use Rattle.registers.proofs.fill.Tie as tie
@@ -56,7 +56,7 @@ returns c =
     let at = c.before.loop in
     let memory₀ = c.before.before.before.args.memory.now in
     let all : at.i ≡ length memory₀ = omega arith in
-    at.invariant.1 ∙ ap (λ (n : ℕ). sets memory₀ 0 (tabulated fresh n 0)) all ∙ filled-whole fresh memory₀
+    at.invariant.1 ∙ ap (λ (n : ℕ). sets memory₀ 0 (tabulated fresh n 0)) all ∙ filled_whole fresh memory₀
 
 pub fill_spec : {M : Type 1} → statement M
 fill_spec =

@@ -2,7 +2,7 @@
 use mathlib.Core.Path.{sym, ◌∙◌}
 use native.Mathlib.Omega.{arith}
 use lib.ListN.{length-take}
-use Rattle.rehearsal.proofs.Rehearsing.{written-within}
+use Rattle.rehearsal.proofs.Rehearsing.{written_within}
 use borrow.Author.Rules.{rules}
 use Rattle.rehearse.proofs.answer.Statement.{statement}
 use Rattle.rehearse.proofs.answer.Tie as tie
@@ -29,10 +29,10 @@ returns : tie.Need-returns
 returns c = search rules
 
 array-share-prefix-out : tie.Need-array-share-prefix-out
-array-share-prefix-out c = omega (arith, written-within c.before.before.before.before.before.before.before.before.args.file.now c.before.before.before.before.before.before.job-memory.result c.before.rehearsed.given.0.0 (sym c.before.before.before.before.rehearse.ensures.says ∙ c.before.rehearsed.given.1), c.before.before.before.before.rehearse.auto.1.0)
+array-share-prefix-out c = omega (arith, written_within c.before.before.before.before.before.before.before.before.args.file.now c.before.before.before.before.before.before.job-memory.result c.before.rehearsed.given.0.0 (sym c.before.before.before.before.rehearse.ensures.says ∙ c.before.rehearsed.given.1), c.before.before.before.before.rehearse.auto.1.0)
 
 slice-aggregate-say-2 : tie.Need-slice-aggregate-say-2
-slice-aggregate-say-2 c = simp length-take (omega (arith, written-within c.before.before.before.before.before.before.before.before.before.args.file.now c.before.before.before.before.before.before.before.job-memory.result c.before.before.rehearsed.given.0.0 (sym c.before.before.before.before.before.rehearse.ensures.says ∙ c.before.before.rehearsed.given.1), c.before.before.before.before.before.rehearse.auto.1.0))
+slice-aggregate-say-2 c = simp length-take (omega (arith, written_within c.before.before.before.before.before.before.before.before.before.args.file.now c.before.before.before.before.before.before.before.job-memory.result c.before.before.rehearsed.given.0.0 (sym c.before.before.before.before.before.rehearse.ensures.says ∙ c.before.before.rehearsed.given.1), c.before.before.before.before.before.rehearse.auto.1.0))
 
 say-requires-2 : tie.Need-say-requires-2
 say-requires-2 c κs = search rules
@@ -40,8 +40,8 @@ say-requires-2 c κs = search rules
 returns-2 : tie.Need-returns-2
 returns-2 c = search rules
 
-pub answer-spec : {M : Type 1} → statement M
-answer-spec =
+pub answer_spec : {M : Type 1} → statement M
+answer_spec =
     tie.close
     (tie.spec
     job-memory-requires

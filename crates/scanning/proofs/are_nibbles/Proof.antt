@@ -2,15 +2,15 @@
 use mathlib.Core.Path.{◌≡◌, refl, sym, ◌∙◌}
 use Prim.Native.Nat.{◌-◌}
 use native.Mathlib.Omega.{arith}
-use Rattle.characters.specs.Nibble.{isNibble}
-use Rattle.scanning.specs.Place.{isNowhere}
-use Rattle.scanning.specs.Along.{failingAlong}
+use Rattle.characters.specs.Nibble.{is_nibble}
+use Rattle.scanning.specs.Place.{is_nowhere}
+use Rattle.scanning.specs.Along.{failing_along}
 use Rattle.scanning.proofs.Marks.{unmarked, no_more, one_more}
 use Rattle.scanning.proofs.are_nibbles.Statement.{statement}
 use Rattle.scanning.proofs.are_nibbles.Tie as tie
 
 abbrev invariant-loop : tie.invariant-loop
-invariant-loop line from to bad₀ i₀ bad i = unmarked isNibble line bad i to ≡ isNowhere (failingAlong isNibble line from (to - from))
+invariant-loop line from to bad₀ i₀ bad i = unmarked is_nibble line bad i to ≡ is_nowhere (failing_along is_nibble line from (to - from))
 
 abbrev decreases-loop : tie.decreases-loop
 decreases-loop line from to bad₀ i₀ bad i = to - i
@@ -37,16 +37,16 @@ loop-again : tie.Need-loop-preserved invariant-loop decreases-loop
 loop-again c =
     let a = c.before.before.before.before.before.args in
     let at = c.before.before.before.loop in
-    one_more isNibble a.line.now at.bad at.i a.to c.misfits.result c.before.before.loop-test.true c.misfits.ensures ∙ at.invariant
+    one_more is_nibble a.line.now at.bad at.i a.to c.misfits.result c.before.before.loop-test.true c.misfits.ensures ∙ at.invariant
 
 returns : tie.Need-returns invariant-loop decreases-loop
 returns c =
     let a = c.before.before.before.args in
     let at = c.before.loop in
-    sym (no_more isNibble a.line.now at.bad at.i a.to c.loop-test.false) ∙ at.invariant
+    sym (no_more is_nibble a.line.now at.bad at.i a.to c.loop-test.false) ∙ at.invariant
 
-pub are-nibbles-spec : {M : Type 1} → statement M
-are-nibbles-spec =
+pub are_nibbles_spec : {M : Type 1} → statement M
+are_nibbles_spec =
     tie.close
     (tie.spec
     invariant-loop

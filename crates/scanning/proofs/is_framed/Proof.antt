@@ -9,7 +9,7 @@ use lib.ListN.{length, get_or}
 use Rattle.characters.specs.Character.{preamble, stop}
 use borrow.Author.Tests.{eq-eqb, ne_eqb}
 use Rattle.scanning.specs.Frame.{framed}
-use Rattle.scanning.proofs.Ends.{framed-ends}
+use Rattle.scanning.proofs.Ends.{framed_ends}
 use borrow.Author.Rules.{rules}
 use Rattle.scanning.proofs.is_framed.Statement.{statement}
 use Rattle.scanning.proofs.is_framed.Tie as tie
@@ -42,10 +42,10 @@ shared-slice-read-result c = search rules
 returns-3 : tie.Need-returns-3
 returns-3 c =
     let l = c.before.before.before.before.args.line.now in
-    sym (framed-ends l ∙ ap (λ (t : Bool). t && eqb (get_or l (length l - 1) 0) stop) (eq-eqb (get_or l 0 0) preamble c.before.if2.false))
+    sym (framed_ends l ∙ ap (λ (t : Bool). t && eqb (get_or l (length l - 1) 0) stop) (eq-eqb (get_or l 0 0) preamble c.before.if2.false))
 
-pub is-framed-spec : {M : Type 1} → statement M
-is-framed-spec =
+pub is_framed_spec : {M : Type 1} → statement M
+is_framed_spec =
     tie.close
     (tie.spec
     returns

@@ -3,15 +3,15 @@ use mathlib.Core.Path.{◌≡◌, sym, ◌∙◌}
 use Prim.Native.Nat.{◌+◌, ◌-◌, ◌≤◌}
 use native.Mathlib.Omega.{arith}
 use borrow.Author.Tests.{not-false}
-use Rattle.characters.specs.Nibble.{isNibble}
-use Rattle.scanning.specs.Along.{failingAlong}
+use Rattle.characters.specs.Nibble.{is_nibble}
+use Rattle.scanning.specs.Along.{failing_along}
 use Rattle.scanning.specs.declared.Place.TheVariants.{Nowhere}
-use Rattle.scanning.proofs.FirstPlace.{scan-done, block_on}
+use Rattle.scanning.proofs.FirstPlace.{scan_done, block_on}
 use Rattle.scanning.proofs.pass_nibbles.Statement.{statement}
 use Rattle.scanning.proofs.pass_nibbles.Tie as tie
 
 abbrev invariant-loop : tie.invariant-loop
-invariant-loop line from to i₀ i = (from ≤ i) × (i ≤ to) × (failingAlong isNibble line from (i - from) ≡ Nowhere)
+invariant-loop line from to i₀ i = (from ≤ i) × (i ≤ to) × (failing_along is_nibble line from (i - from) ≡ Nowhere)
 
 abbrev decreases-loop : tie.decreases-loop
 decreases-loop line from to i₀ i = to - i
@@ -19,7 +19,7 @@ decreases-loop line from to i₀ i = to - i
 loop-holds : tie.Need-loop-init invariant-loop decreases-loop
 loop-holds c =
     let a = c.before.args in
-    (omega arith, c.before.requires.0, scan-done isNibble a.line.now a.from a.from (omega arith))
+    (omega arith, c.before.requires.0, scan_done is_nibble a.line.now a.from a.from (omega arith))
 
 sub-loop : tie.Need-overflow-sub-loop invariant-loop decreases-loop
 sub-loop c = omega arith
@@ -45,13 +45,13 @@ loop-again c =
     let at = c.before.before.before.loop in
     let room : at.i + 16 ≤ a.to = omega (arith, at.invariant.1, c.before.before.loop-test.true) in
     let passed = sym c.before.are-nibbles.ensures ∙ not-false c.before.are-nibbles.result c.if1.false in
-    (omega (arith, at.invariant.0), room, block_on isNibble a.line.now a.from at.i 16 at.invariant.0 at.invariant.2 passed)
+    (omega (arith, at.invariant.0), room, block_on is_nibble a.line.now a.from at.i 16 at.invariant.0 at.invariant.2 passed)
 
 returns-2 : tie.Need-returns-2 invariant-loop decreases-loop
 returns-2 c = c.before.loop.invariant
 
-pub pass-nibbles-spec : {M : Type 1} → statement M
-pass-nibbles-spec =
+pub pass_nibbles_spec : {M : Type 1} → statement M
+pass_nibbles_spec =
     tie.close
     (tie.spec
     invariant-loop

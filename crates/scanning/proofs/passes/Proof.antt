@@ -26,9 +26,9 @@ returns c =
 returns-2 : tie.Need-returns-2
 returns-2 c =
     let a = c.before.before.before.args in
-    c.is-nibble.ensures ∙ ap (λ (row : Row). test_of row a.w) (sym c.before.enum-told2.given.1)
+    c.is_nibble_lem.ensures ∙ ap (λ (row : Row). test_of row a.w) (sym c.before.enum-told2.given.1)
 
-pub passes-spec : {M : Type 1} → statement M
-passes-spec =
+pub passes_spec : {M : Type 1} → statement M
+passes_spec =
     tie.close
     (tie.spec enum_told is-character-requires enum-told-2 is-nibble-requires returns returns-2)

@@ -3,5 +3,5 @@ use borrow.Author.Rules.{rules}
 use Rattle.twin_numbers.proofs.powered_number.Statement.{statement}
 use Rattle.twin_numbers.proofs.powered_number.Tie as tie
 
-pub powered-number-spec : {M : Type 1} → statement M
-powered-number-spec = tie.close (tie.spec (λ c. search rules) (λ c. search rules) (λ c. search rules) (λ c. search rules))
+pub powered_number_spec : {M : Type 1} → statement M
+powered_number_spec = tie.close (tie.spec (λ c. search rules) (λ c. search rules) (λ c. search rules) (λ c. search rules))

@@ -3,5 +3,5 @@ use borrow.Author.Rules.{rules}
 use Rattle.twin_numbers.proofs.stepped_number.Statement.{statement}
 use Rattle.twin_numbers.proofs.stepped_number.Tie as tie
 
-pub stepped-number-spec : {M : Type 1} → statement M
-stepped-number-spec = tie.close (tie.spec (λ c. search rules) (λ c. search rules) (λ c. search rules) (λ c. search rules) (λ c. search rules) (λ c. search rules))
+pub stepped_number_spec : {M : Type 1} → statement M
+stepped_number_spec = tie.close (tie.spec (λ c. search rules) (λ c. search rules) (λ c. search rules) (λ c. search rules) (λ c. search rules) (λ c. search rules))

@@ -1,7 +1,7 @@
 -- `gather` meets its contract: the own value, and the line's values behind it.
-use Rattle.questions.specs.Bytes.{lowHigh}
-use Rattle.underway.specs.OnTheWay.{wireOf}
-use Rattle.underway.proofs.Laying.{laid-holds, holds_then}
+use Rattle.questions.specs.Bytes.{low_high}
+use Rattle.underway.specs.OnTheWay.{wire_of}
+use Rattle.underway.proofs.Laying.{laid_holds, holds_then}
 use Rattle.std.proofs.Common.{rules}
 use Rattle.underway.proofs.gather.Statement.{statement}
 use Rattle.underway.proofs.gather.Tie as tie
@@ -21,9 +21,9 @@ same_length c = search rules
 returns : tie.Need-returns
 returns c =
     let a = c.before.before.before.before.before.before.before.before.before.before.args in
-    holds_then (lowHigh a.own) (wireOf a.line.now a.m) (laid-holds (lowHigh a.own) c.before.before.before.before.before.before.push-value.ensures) c.before.before.push-carried.ensures
+    holds_then (low_high a.own) (wire_of a.line.now a.m) (laid_holds (low_high a.own) c.before.before.before.before.before.before.push-value.ensures) c.before.before.push-carried.ensures
 
-pub gather-spec : {M : Type 1} → statement M
-gather-spec =
+pub gather_spec : {M : Type 1} → statement M
+gather_spec =
     tie.close
     (tie.spec push-value-requires mul-push-carried push-carried-requires same_length returns)

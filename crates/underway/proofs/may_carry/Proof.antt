@@ -13,5 +13,5 @@ shape-of-requires c κs = search rules
 returns-2 : tie.Need-returns-2
 returns-2 c = simp (lt-leb _ _ c.before.before.if1.false) (ap (λ s. ltb c.before.before.before.before.args.m s.values) c.before.shape_of.ensures)
 
-pub may-carry-spec : {M : Type 1} → statement M
-may-carry-spec = tie.close (tie.spec returns shape-of-requires returns-2)
+pub may_carry_spec : {M : Type 1} → statement M
+may_carry_spec = tie.close (tie.spec returns shape-of-requires returns-2)

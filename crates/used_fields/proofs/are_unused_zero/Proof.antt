@@ -4,7 +4,7 @@ use mathlib.Core.Bool.{◌||◌}
 use lib.Dec.{eqb}
 use borrow.Author.Tests.{not-true, not-false}
 use Rattle.used_fields.specs.declared.Uses.{Uses}
-use Rattle.used_fields.specs.Used.{unusedAreZero}
+use Rattle.used_fields.specs.Used.{unused_are_zero}
 use borrow.Author.Rules.{rules}
 use Rattle.used_fields.proofs.are_unused_zero.Statement.{statement}
 use Rattle.used_fields.proofs.are_unused_zero.Tie as tie
@@ -19,7 +19,7 @@ is-used-or-zero-requires : tie.Need-is-used-or-zero-requires
 is-used-or-zero-requires c κs = search rules
 
 returns : tie.Need-returns
-unfolding unusedAreZero
+unfolding unused_are_zero
 returns c =
     let q = c.before.before.before.before.args.q in
     let uses = c.before.before.before.uses-of.ensures in
@@ -29,7 +29,7 @@ is-used-or-zero-requires-2 : tie.Need-is-used-or-zero-requires-2
 is-used-or-zero-requires-2 c κs = search rules
 
 returns-2 : tie.Need-returns-2
-unfolding unusedAreZero
+unfolding unused_are_zero
 returns-2 c =
     let q = c.before.before.before.before.before.before.args.q in
     let uses = c.before.before.before.before.before.uses-of.ensures in
@@ -45,7 +45,7 @@ is-used-or-zero-requires-3 : tie.Need-is-used-or-zero-requires-3
 is-used-or-zero-requires-3 c κs = search rules
 
 returns-3 : tie.Need-returns-3
-unfolding unusedAreZero
+unfolding unused_are_zero
 returns-3 c =
     let q = c.before.before.before.before.before.before.before.before.before.args.q in
     let uses = c.before.before.before.before.before.before.before.before.uses-of.ensures in
@@ -62,7 +62,7 @@ is-used-or-zero-requires-4 : tie.Need-is-used-or-zero-requires-4
 is-used-or-zero-requires-4 c κs = search rules
 
 returns-4 : tie.Need-returns-4
-unfolding unusedAreZero
+unfolding unused_are_zero
 returns-4 c =
     let q = c.before.before.before.before.before.before.before.before.before.before.before.args.q in
     let uses = c.before.before.before.before.before.before.before.before.before.before.uses-of.ensures in
@@ -73,8 +73,8 @@ returns-4 c =
       sym (c.is-used-or-zero4.ensures ∙ ap (λ (u : Uses). u.seed || eqb q.seed 0) uses),
     )
 
-pub are-unused-zero-spec : {M : Type 1} → statement M
-are-unused-zero-spec =
+pub are_unused_zero_spec : {M : Type 1} → statement M
+are_unused_zero_spec =
     tie.close
     (tie.spec
     uses-of-requires

@@ -12,5 +12,5 @@ returns c = search rules
 returns-2 : tie.Need-returns-2
 returns-2 c = sym (ap (λ (t : Bool). t || eqb c.before.args.field 0) c.if1.false)
 
-pub is-used-or-zero-spec : {M : Type 1} → statement M
-is-used-or-zero-spec = tie.close (tie.spec returns returns-2)
+pub is_used_or_zero_spec : {M : Type 1} → statement M
+is_used_or_zero_spec = tie.close (tie.spec returns returns-2)

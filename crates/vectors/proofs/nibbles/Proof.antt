@@ -29,7 +29,7 @@ loop-again c = omega arith
 returns : tie.Need-returns invariant-loop decreases-loop
 returns c = search rules
 
-pub nibbles-spec : {M : Type 1} → statement M
-nibbles-spec =
+pub nibbles_spec : {M : Type 1} → statement M
+nibbles_spec =
     tie.close
     (tie.spec invariant-loop decreases-loop loop-holds nibble-requires add-n loop-less loop-again returns)

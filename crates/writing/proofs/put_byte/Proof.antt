@@ -44,8 +44,8 @@ returns c =
     let a = c.before.before.before.args in
     ap₂ (λ (x y : ℕ). set (set a.out.now (2 * a.i + 1) x) (2 * a.i + 2) y) c.before.word_of.ensures c.word-of2.ensures
 
-pub put-byte-spec : {M : Type 1} → statement M
-put-byte-spec =
+pub put_byte_spec : {M : Type 1} → statement M
+put_byte_spec =
     tie.close
     (tie.spec
     word-of-requires

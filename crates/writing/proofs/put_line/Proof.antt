@@ -6,9 +6,9 @@ use native.Mathlib.Omega.{arith}
 use lib.ListN.{length, get_or, set, length-set}
 use lib.Seq.{sets, take_all}
 use Rattle.characters.specs.Character.{preamble, stop}
-use Rattle.lines.specs.Line.{charactersOf}
-use Rattle.writing.specs.PutLine.{withByte}
-use Rattle.writing.proofs.Stored.{so_far, stored_next, stored-all, refused, written}
+use Rattle.lines.specs.Line.{characters_of}
+use Rattle.writing.specs.PutLine.{with_byte}
+use Rattle.writing.proofs.Stored.{so_far, stored_next, stored_all, refused, written}
 use Rattle.writing.proofs.put_line.Statement.{statement}
 use Rattle.writing.proofs.put_line.Tie as tie
 
@@ -27,7 +27,7 @@ slice-write-out : tie.Need-slice-write-out invariant-loop decreases-loop
 slice-write-out c = omega arith
 
 loop-holds : tie.Need-loop-init invariant-loop decreases-loop
-unfolding charactersOf
+unfolding characters_of
 loop-holds c = (omega arith, refl, refl)
 
 shared-slice-read-put-byte : tie.Need-shared-slice-read-put-byte invariant-loop decreases-loop
@@ -50,7 +50,7 @@ loop-again c =
     let first = set a.out.now 0 preamble in (
       omega arith,
       c.before.before.put_byte.ensures
-          ∙ ap (λ (words : List ℕ). withByte words at.i (get_or a.bytes.now at.i 0)) at.invariant.1
+          ∙ ap (λ (words : List ℕ). with_byte words at.i (get_or a.bytes.now at.i 0)) at.invariant.1
           ∙ stored_next a.bytes.now first at.i c.before.before.before.before.before.loop-test.true,
       c.before.before.put_byte.auto.0 ∙ at.invariant.2,
     )
@@ -84,11 +84,11 @@ returns-2 c =
     let first = set a.out.now 0 preamble in
     written a.bytes.now a.out.now _ _ (omega arith) (ap (λ (k : ℕ). 2 * k + 2) all)
     (ap₂ (λ (words : List ℕ) (k : ℕ). set words (2 * k + 1) stop)
-    (at.invariant.1 ∙ ap (λ (l : List ℕ). sets first 1 (charactersOf l)) (take_all at.i a.bytes.now (omega arith))) all
-    ∙ stored-all a.bytes.now a.out.now (omega arith))
+    (at.invariant.1 ∙ ap (λ (l : List ℕ). sets first 1 (characters_of l)) (take_all at.i a.bytes.now (omega arith))) all
+    ∙ stored_all a.bytes.now a.out.now (omega arith))
 
-pub put-line-spec : {M : Type 1} → statement M
-put-line-spec =
+pub put_line_spec : {M : Type 1} → statement M
+put_line_spec =
     tie.close
     (tie.spec
     invariant-loop

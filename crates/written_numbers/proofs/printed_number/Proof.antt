@@ -3,5 +3,5 @@ use borrow.Author.Rules.{rules}
 use Rattle.written_numbers.proofs.printed_number.Statement.{statement}
 use Rattle.written_numbers.proofs.printed_number.Tie as tie
 
-pub printed-number-spec : {M : Type 1} → statement M
-printed-number-spec = tie.close (tie.spec (λ c. search rules) (λ c. search rules) (λ c. search rules) (λ c. search rules) (λ c. search rules) (λ c. search rules))
+pub printed_number_spec : {M : Type 1} → statement M
+printed_number_spec = tie.close (tie.spec (λ c. search rules) (λ c. search rules) (λ c. search rules) (λ c. search rules) (λ c. search rules) (λ c. search rules))

@@ -3,7 +3,7 @@ use mathlib.Core.Path.{sym, ◌∙◌}
 use Prim.Native.Nat.{◌-◌}
 use lib.ListN.{length}
 use Rattle.jobs.proofs.Entries.{parts}
-use Rattle.certificate.proofs.Telling.{Going, going-first, going_on, going_less, room-left, all_told}
+use Rattle.certificate.proofs.Telling.{Going, going_first, going_on, going_less, room_left, all_told}
 use Rattle.certificate.proofs.entries.tell.Statement.{statement}
 use Rattle.certificate.proofs.entries.tell.Tie as tie
 
@@ -20,13 +20,13 @@ begin-requires : tie.Need-begin-requires invariant-loop decreases-loop
 begin-requires c κs = tt
 
 loop-holds : tie.Need-loop-init invariant-loop decreases-loop
-loop-holds c = let a = c.before.before.before.before.args in going-first a.header a.file.now c.before.before.before.before.requires.0 c.before.before.before.before.requires.1 a.numbers.now _ c.begin.result c.before.before.before.before.requires.2 c.before.first.ensures c.begin.ensures
+loop-holds c = let a = c.before.before.before.before.args in going_first a.header a.file.now c.before.before.before.before.requires.0 c.before.before.before.before.requires.1 a.numbers.now _ c.begin.result c.before.before.before.before.requires.2 c.before.first.ensures c.begin.ensures
 
 tell-entry-requires : tie.Need-tell-entry-requires invariant-loop decreases-loop
 tell-entry-requires c κs =
     let a = c.before.before.before.before.before.before.before.before.args in
     let at = c.before.before.before.loop in
-    (c.before.if1.true, at.invariant.good, room-left a.header a.file.now at.numbers at.numbers at.told at.told (parts a.file.now c.before.before.before.before.before.before.before.before.requires.0).size c.before.if1.true at.invariant)
+    (c.before.if1.true, at.invariant.good, room_left a.header a.file.now at.numbers at.numbers at.told at.told (parts a.file.now c.before.before.before.before.before.before.before.before.requires.0).size c.before.if1.true at.invariant)
 
 loop-less : tie.Need-loop-smaller invariant-loop decreases-loop
 loop-less c =
@@ -49,8 +49,8 @@ returns c =
     let at = c.before.before.loop in
     all_told a.header a.file.now at.numbers at.told c.before.before.before.before.before.before.before.requires.1 (parts a.file.now c.before.before.before.before.before.before.before.requires.0).size c.if1.false at.invariant
 
-pub tell-spec : {M : Type 1} → statement M
-tell-spec =
+pub tell_spec : {M : Type 1} → statement M
+tell_spec =
     tie.close
     (tie.spec
     invariant-loop

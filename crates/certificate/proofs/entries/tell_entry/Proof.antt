@@ -6,10 +6,10 @@ use native.Mathlib.Omega.{arith}
 use lib.ListN.{drop, set}
 use Rattle.ground.proofs.Lists.{part_to_end}
 use Rattle.jobs.proofs.Entries.{first_good}
-use Rattle.jobs.proofs.Placed.{entry-within}
+use Rattle.jobs.proofs.Placed.{entry_within}
 use Rattle.listening.specs.declared.Listened.{Listened}
-use Rattle.listening.specs.Listening.{listenOf}
-use Rattle.listening.proofs.Listening.{good-heard}
+use Rattle.listening.specs.Listening.{listen_of}
+use Rattle.listening.proofs.Listening.{good_heard}
 use borrow.Author.Rules.{rules}
 use Rattle.certificate.proofs.entries.tell_entry.Statement.{statement}
 use Rattle.certificate.proofs.entries.tell_entry.Tie as tie
@@ -35,8 +35,8 @@ add-t10 c =
     let file = a.file.now in
     let at = a.told.at in
     let is = first_good a.header file at c.before.before.before.before.before.before.requires.0 c.before.before.before.before.before.before.requires.1 in
-    let heard = c.before.before.listen.ensures ∙ ap (λ (l : List ℕ). listenOf a.header l a.told.standing) (part_to_end file at) ∙ good-heard a.header (drop at file) a.told.standing is in
-    omega (arith, ap (λ (x : Listened). x.size) heard, entry-within a.header file at is)
+    let heard = c.before.before.listen.ensures ∙ ap (λ (l : List ℕ). listen_of a.header l a.told.standing) (part_to_end file at) ∙ good_heard a.header (drop at file) a.told.standing is in
+    omega (arith, ap (λ (x : Listened). x.size) heard, entry_within a.header file at is)
 
 add-t14 : tie.Need-overflow-add-t14
 add-t14 c = search rules
@@ -50,7 +50,7 @@ returns c =
     let file = a.file.now in
     let at = a.told.at in
     let is = first_good a.header file at c.before.before.before.before.before.before.requires.0 c.before.before.before.before.before.before.requires.1 in
-    let heard = c.before.before.listen.ensures ∙ ap (λ (l : List ℕ). listenOf a.header l a.told.standing) (part_to_end file at) ∙ good-heard a.header (drop at file) a.told.standing is in
+    let heard = c.before.before.listen.ensures ∙ ap (λ (l : List ℕ). listen_of a.header l a.told.standing) (part_to_end file at) ∙ good_heard a.header (drop at file) a.told.standing is in
     record {
       at = ap (λ (x : Listened). at + x.size) heard;
       entries = refl;
@@ -58,8 +58,8 @@ returns c =
       numbers = ap (λ (x : Listened). set a.numbers.now a.told.entries x.number) heard;
     }
 
-pub tell-entry-spec : {M : Type 1} → statement M
-tell-entry-spec =
+pub tell_entry_spec : {M : Type 1} → statement M
+tell_entry_spec =
     tie.close
     (tie.spec
     sub-listen

@@ -44,8 +44,8 @@ same_length c = search rules
 returns-2 : tie.Need-returns-2
 returns-2 c = search rules
 
-pub bench-spec : {M : Type 1} → statement M
-bench-spec =
+pub bench_spec : {M : Type 1} → statement M
+bench_spec =
     tie.close
     (tie.spec
     slice-aggregate-text

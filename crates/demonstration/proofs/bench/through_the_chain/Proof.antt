@@ -50,8 +50,8 @@ same-length-3 c = search rules
 returns-3 : tie.Need-returns-3
 returns-3 c = search rules
 
-pub through-the-chain-spec : {M : Type 1} → statement M
-through-the-chain-spec =
+pub through_the_chain_spec : {M : Type 1} → statement M
+through_the_chain_spec =
     tie.close
     (tie.spec
     line-of-words-requires

@@ -45,8 +45,8 @@ text-requires c κs = tt
 returns : tie.Need-returns invariant-loop decreases-loop
 returns c = tt
 
-pub bytes-on-spec : {M : Type 1} → statement M
-bytes-on-spec =
+pub bytes_on_spec : {M : Type 1} → statement M
+bytes_on_spec =
     tie.close
     (tie.spec
     invariant-loop

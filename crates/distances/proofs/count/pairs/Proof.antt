@@ -38,8 +38,8 @@ loop-again c = omega arith
 returns : tie.Need-returns invariant-loop decreases-loop
 returns c = omega arith
 
-pub pairs-spec : {M : Type 1} → statement M
-pairs-spec =
+pub pairs_spec : {M : Type 1} → statement M
+pairs_spec =
     tie.close
     (tie.spec
     invariant-loop

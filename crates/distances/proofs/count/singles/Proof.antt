@@ -36,8 +36,8 @@ loop-again c = omega arith
 returns : tie.Need-returns invariant-loop decreases-loop
 returns c = omega arith
 
-pub singles-spec : {M : Type 1} → statement M
-singles-spec =
+pub singles_spec : {M : Type 1} → statement M
+singles_spec =
     tie.close
     (tie.spec
     invariant-loop

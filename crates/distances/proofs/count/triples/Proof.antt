@@ -39,8 +39,8 @@ loop-again c = omega arith
 returns : tie.Need-returns invariant-loop decreases-loop
 returns c = search rules
 
-pub triples-spec : {M : Type 1} → statement M
-triples-spec =
+pub triples_spec : {M : Type 1} → statement M
+triples_spec =
     tie.close
     (tie.spec
     invariant-loop

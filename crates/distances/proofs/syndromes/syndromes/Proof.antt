@@ -40,8 +40,8 @@ loop-again c = search rules
 returns : tie.Need-returns invariant-loop decreases-loop
 returns c = search rules
 
-pub syndromes-spec : {M : Type 1} → statement M
-syndromes-spec =
+pub syndromes_spec : {M : Type 1} → statement M
+syndromes_spec =
     tie.close
     (tie.spec
     invariant-loop

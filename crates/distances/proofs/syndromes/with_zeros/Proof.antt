@@ -29,7 +29,7 @@ loop-again c = omega arith
 returns : tie.Need-returns invariant-loop decreases-loop
 returns c = search rules
 
-pub with-zeros-spec : {M : Type 1} → statement M
-with-zeros-spec =
+pub with_zeros_spec : {M : Type 1} → statement M
+with_zeros_spec =
     tie.close
     (tie.spec invariant-loop decreases-loop loop-holds step-requires add-i loop-less loop-again returns)

@@ -3,9 +3,9 @@ use mathlib.Core.Path.{ap, ◌∙◌}
 use native.Mathlib.Omega.{arith}
 use lib.ListN.{length, drop, length-drop}
 use Rattle.ground.proofs.Lists.{part_to_end}
-use Rattle.jobs.specs.Check.{words_in, maskIn, askedIn}
-use Rattle.jobs.proofs.Sizes.{field-size-is}
-use Rattle.jobs.proofs.GoodEntry.{good, placed-is}
+use Rattle.jobs.specs.Check.{words_in, mask_in, asked_in}
+use Rattle.jobs.proofs.Sizes.{field_size_is}
+use Rattle.jobs.proofs.GoodEntry.{good, placed_is}
 use borrow.Author.Rules.{rules}
 use Rattle.jobs.proofs.entry.entry_known_at.Statement.{statement}
 use Rattle.jobs.proofs.entry.entry_known_at.Tie as tie
@@ -35,7 +35,7 @@ part-question-in-end : tie.Need-slice-bounds-question-in-end
 part-question-in-end c = search rules
 
 question-in-requires : tie.Need-question-in-requires
-question-in-requires c κs = let a = c.before.before.before.before.args in omega (arith, ap length (part_to_end a.file.now a.at), (good a.header (drop a.at a.file.now) c.before.before.before.before.requires.1).whole, field-size-is a.header.version)
+question-in-requires c κs = let a = c.before.before.before.before.args in omega (arith, ap length (part_to_end a.file.now a.at), (good a.header (drop a.at a.file.now) c.before.before.before.before.requires.1).whole, field_size_is a.header.version)
 
 sub-mask-in : tie.Need-overflow-sub-mask-in
 sub-mask-in c = search rules
@@ -69,10 +69,10 @@ returns c =
     let a = c.before.before.before.before.before.before.before.before.args in
     let v = a.header.version in
     let part = part_to_end a.file.now a.at in
-    placed-is a.header (drop a.at a.file.now) a.at _ _ _ _ (c.before.before.before.question-in.ensures ∙ ap (askedIn a.header) part) (c.before.mask-in.ensures ∙ ap (maskIn v) part) c.field-size.ensures (c.before.before.before.before.before.words-in.ensures ∙ ap (words_in v) part)
+    placed_is a.header (drop a.at a.file.now) a.at _ _ _ _ (c.before.before.before.question-in.ensures ∙ ap (asked_in a.header) part) (c.before.mask-in.ensures ∙ ap (mask_in v) part) c.field-size.ensures (c.before.before.before.before.before.words-in.ensures ∙ ap (words_in v) part)
 
-pub entry-known-at-spec : {M : Type 1} → statement M
-entry-known-at-spec =
+pub entry_known_at_spec : {M : Type 1} → statement M
+entry_known_at_spec =
     tie.close
     (tie.spec
     sub-words-in

@@ -3,11 +3,11 @@ use mathlib.Core.Path.{sym, ap, ap₂, ◌∙◌}
 use native.Mathlib.Omega.{arith}
 use lib.ListN.{get_or}
 use borrow.Author.Tests.{le-leb, lt-leb, not-true, not-false}
-use Rattle.masks.specs.Masks.{goodMask}
+use Rattle.masks.specs.Masks.{good_mask}
 use Rattle.questions.specs.declared.question.Question.{Question}
-use Rattle.used_fields.specs.Used.{unusedAreZero}
-use Rattle.jobs.proofs.Sizes.{field-size-is}
-use Rattle.jobs.proofs.GoodEntry.{too_short, too_many, cut_short, of-its-fields}
+use Rattle.used_fields.specs.Used.{unused_are_zero}
+use Rattle.jobs.proofs.Sizes.{field_size_is}
+use Rattle.jobs.proofs.GoodEntry.{too_short, too_many, cut_short, of_its_fields}
 use borrow.Author.Rules.{rules}
 use Rattle.jobs.proofs.entry.is_good_entry.Statement.{statement}
 use Rattle.jobs.proofs.entry.is_good_entry.Tie as tie
@@ -31,13 +31,13 @@ returns-3 : tie.Need-returns-3
 returns-3 c = sym (cut_short c.before.before.before.before.before.before.before.args.header c.before.before.before.before.before.before.before.args.front.now (omega (arith, c.before.size_in.ensures, c.if3.true)))
 
 question-in-requires : tie.Need-question-in-requires
-question-in-requires c κs = omega (arith, field-size-is c.before.before.before.before.before.before.before.args.header.version, c.before.before.before.before.before.field-size.ensures, c.before.before.before.before.if1.false)
+question-in-requires c κs = omega (arith, field_size_is c.before.before.before.before.before.before.before.args.header.version, c.before.before.before.before.before.field-size.ensures, c.before.before.before.before.if1.false)
 
 returns-4 : tie.Need-returns-4
 returns-4 c =
     let a = c.before.before.before.before.before.before.before.before.before.before.args in
     let kind = ap (λ (q : Question). q.kind) c.before.before.question-in.ensures in
-    let fields = of-its-fields a.header a.front.now (omega (arith, c.before.before.before.before.size_in.ensures, c.before.before.before.if3.false)) (omega (arith, c.before.before.before.before.before.before.words-in.ensures, c.before.before.before.before.before.if2.false)) in
+    let fields = of_its_fields a.header a.front.now (omega (arith, c.before.before.before.before.size_in.ensures, c.before.before.before.if3.false)) (omega (arith, c.before.before.before.before.before.before.words-in.ensures, c.before.before.before.before.before.if2.false)) in
     simp (fields, lt-leb (get_or a.front.now 0 0) 4 (omega (arith, kind, c.if4.true)))
 
 are-unused-zero-requires : tie.Need-are-unused-zero-requires
@@ -48,8 +48,8 @@ returns-5 c =
     let a = c.before.before.before.before.before.before.before.before.before.before.before.before.args in
     let asks = c.before.before.before.before.question-in.ensures in
     let kind = ap (λ (q : Question). q.kind) asks in
-    let unused = sym (c.before.are-unused-zero.ensures ∙ ap unusedAreZero asks) ∙ not-true _ c.if5.true in
-    let fields = of-its-fields a.header a.front.now (omega (arith, c.before.before.before.before.before.before.size_in.ensures, c.before.before.before.before.before.if3.false)) (omega (arith, c.before.before.before.before.before.before.before.before.words-in.ensures, c.before.before.before.before.before.before.before.if2.false)) in
+    let unused = sym (c.before.are-unused-zero.ensures ∙ ap unused_are_zero asks) ∙ not-true _ c.if5.true in
+    let fields = of_its_fields a.header a.front.now (omega (arith, c.before.before.before.before.before.before.size_in.ensures, c.before.before.before.before.before.if3.false)) (omega (arith, c.before.before.before.before.before.before.before.before.words-in.ensures, c.before.before.before.before.before.before.before.if2.false)) in
     simp (fields, unused, le-leb (get_or a.front.now 0 0) 4 (omega (arith, kind, c.before.before.if4.false)))
 
 mask-in-requires : tie.Need-mask-in-requires
@@ -63,13 +63,13 @@ returns-6 c =
     let a = c.before.before.before.before.before.before.before.before.before.before.before.before.before.before.args in
     let asks = c.before.before.before.before.before.before.question-in.ensures in
     let kind = ap (λ (q : Question). q.kind) asks in
-    let unused = sym (c.before.before.before.are-unused-zero.ensures ∙ ap unusedAreZero asks) ∙ not-false _ c.before.before.if5.false in
-    let fields = of-its-fields a.header a.front.now (omega (arith, c.before.before.before.before.before.before.before.before.size_in.ensures, c.before.before.before.before.before.before.before.if3.false)) (omega (arith, c.before.before.before.before.before.before.before.before.before.before.words-in.ensures, c.before.before.before.before.before.before.before.before.before.if2.false)) in
-    let mask = c.is-good-mask.ensures ∙ ap₂ (goodMask a.header.version) kind c.before.mask-in.ensures in
+    let unused = sym (c.before.before.before.are-unused-zero.ensures ∙ ap unused_are_zero asks) ∙ not-false _ c.before.before.if5.false in
+    let fields = of_its_fields a.header a.front.now (omega (arith, c.before.before.before.before.before.before.before.before.size_in.ensures, c.before.before.before.before.before.before.before.if3.false)) (omega (arith, c.before.before.before.before.before.before.before.before.before.before.words-in.ensures, c.before.before.before.before.before.before.before.before.before.if2.false)) in
+    let mask = c.is-good-mask.ensures ∙ ap₂ (good_mask a.header.version) kind c.before.mask-in.ensures in
     simp (fields, unused, le-leb (get_or a.front.now 0 0) 4 (omega (arith, kind, c.before.before.before.before.if4.false))) mask
 
-pub is-good-entry-spec : {M : Type 1} → statement M
-is-good-entry-spec =
+pub is_good_entry_spec : {M : Type 1} → statement M
+is_good_entry_spec =
     tie.close
     (tie.spec
     field-size-requires

@@ -29,8 +29,8 @@ returns c =
     let said = c.before.before.join.ensures ∙ ap₂ (λ (low high : ℕ). low + 256 * high) c.before.before.before.before.byte-or-zero.ensures c.before.before.before.byte-or-zero2.ensures in
     c.mask-of.ensures ∙ ap₂ (mask_of c.before.before.before.before.before.before.args.version) c.before.byte-or-zero3.ensures said
 
-pub mask-in-spec : {M : Type 1} → statement M
-mask-in-spec =
+pub mask_in_spec : {M : Type 1} → statement M
+mask_in_spec =
     tie.close
     (tie.spec
     byte-or-zero-requires

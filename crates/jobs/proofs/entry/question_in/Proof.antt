@@ -44,10 +44,10 @@ returns c =
     let h = a.header in
     c.ask.ensures
     ∙ ap₂ (λ (v k : ℕ). asking (get_or front 0 0) h.n h.alive (get_or front 1 0) v (get_or front k 0) (get_or front (k + 1) 0))
-    c.before.before.before.before.join.ensures c.before.before.before.behind-mask.ensures
+    c.before.before.before.before.join.ensures c.before.before.before.behind_mask_lem.ensures
 
-pub question-in-spec : {M : Type 1} → statement M
-question-in-spec =
+pub question_in_spec : {M : Type 1} → statement M
+question_in_spec =
     tie.close
     (tie.spec
     shared-slice-read-kind

@@ -3,20 +3,20 @@ use mathlib.Core.Path.{sym, ap₂, ◌∙◌}
 use Prim.Native.Nat.{ℕ, ◌+◌, ◌*◌, ◌≤◌}
 use native.Mathlib.Omega.{arith}
 use lib.ListN.{length, get_or-eq_default}
-use Rattle.characters.specs.Nibble.{trueBits}
-use Rattle.lines.specs.Line.{byteAt}
+use Rattle.characters.specs.Nibble.{true_bits}
+use Rattle.lines.specs.Line.{byte_at}
 use borrow.Author.Rules.{rules}
 use Rattle.lines.proofs.read.byte_at.Statement.{statement}
 use Rattle.lines.proofs.read.byte_at.Tie as tie
 
 returns : tie.Need-returns
-unfolding byteAt
+unfolding byte_at
 returns c =
     let a = c.before.before.args in
     let l = a.line.now in
     let low : length l ≤ 1 + 2 * a.i = omega arith in
     let high : length l ≤ 2 + 2 * a.i = omega arith in
-    sym (ap₂ (λ (x y : ℕ). trueBits x + 16 * trueBits y) (get_or-eq_default l 0 low) (get_or-eq_default l 0 high))
+    sym (ap₂ (λ (x y : ℕ). true_bits x + 16 * true_bits y) (get_or-eq_default l 0 low) (get_or-eq_default l 0 high))
 
 mul-word-or-zero : tie.Need-overflow-mul-word-or-zero
 mul-word-or-zero c = search rules
@@ -40,11 +40,11 @@ two-nibbles-requires : tie.Need-two-nibbles-requires
 two-nibbles-requires c κs = search rules
 
 returns-2 : tie.Need-returns-2
-unfolding byteAt
-returns-2 c = c.two-nibbles.ensures ∙ ap₂ (λ (x y : ℕ). trueBits x + 16 * trueBits y) c.before.before.word-or-zero.ensures c.before.word-or-zero2.ensures
+unfolding byte_at
+returns-2 c = c.two_nibbles.ensures ∙ ap₂ (λ (x y : ℕ). true_bits x + 16 * true_bits y) c.before.before.word-or-zero.ensures c.before.word-or-zero2.ensures
 
-pub byte-at-spec : {M : Type 1} → statement M
-byte-at-spec =
+pub byte_at_spec : {M : Type 1} → statement M
+byte_at_spec =
     tie.close
     (tie.spec
     returns

@@ -6,18 +6,18 @@ use native.Mathlib.Omega.{arith}
 use lib.ListN.{length, get_or, set, length-set}
 use lib.Seq.{sets}
 use Rattle.ground.specs.Sweep.{tabulated}
-use Rattle.ground.proofs.Lists.{filled_next, filled-whole}
-use Rattle.lines.specs.Nibbles.{twoOf}
+use Rattle.ground.proofs.Lists.{filled_next, filled_whole}
+use Rattle.lines.specs.Nibbles.{two_of}
 use borrow.Author.Rules.{rules}
 use Rattle.lines.proofs.read.join_nibbles.Statement.{statement}
 use Rattle.lines.proofs.read.join_nibbles.Tie as tie
 
 -- byte k of a list of nibbles
-abbrev ofNibbles : List ℕ → ℕ → ℕ
-ofNibbles nibbles = twoOf (λ i. get_or nibbles i 0)
+abbrev of_nibbles : List ℕ → ℕ → ℕ
+of_nibbles nibbles = two_of (λ i. get_or nibbles i 0)
 
 abbrev invariant-loop : tie.invariant-loop
-invariant-loop nibbles out₀ k₀ out k = (k ≤ length out₀) × (out ≡ sets out₀ 0 (tabulated (ofNibbles nibbles) k 0)) × (length out ≡ length out₀)
+invariant-loop nibbles out₀ k₀ out k = (k ≤ length out₀) × (out ≡ sets out₀ 0 (tabulated (of_nibbles nibbles) k 0)) × (length out ≡ length out₀)
 
 abbrev decreases-loop : tie.decreases-loop
 decreases-loop nibbles out₀ k₀ out k = length out₀ - k
@@ -57,7 +57,7 @@ loop-again c =
     let a = c.before.before.before.before.before.before.before.args in
     let at = c.before.before.before.before.loop in (
       omega arith,
-      ap₂ (λ (l : List ℕ) (b : ℕ). set l at.k b) at.invariant.1 c.joined.ensures ∙ filled_next (ofNibbles a.nibbles.now) a.out.now at.k,
+      ap₂ (λ (l : List ℕ) (b : ℕ). set l at.k b) at.invariant.1 c.joined.ensures ∙ filled_next (of_nibbles a.nibbles.now) a.out.now at.k,
       length-set at.out at.k c.joined.result ∙ at.invariant.2,
     )
 
@@ -69,10 +69,10 @@ returns c =
     let a = c.before.before.before.before.args in
     let at = c.before.loop in
     let all : at.k ≡ length a.out.now = omega arith in
-    at.invariant.1 ∙ ap (λ (n : ℕ). sets a.out.now 0 (tabulated (ofNibbles a.nibbles.now) n 0)) all ∙ filled-whole (ofNibbles a.nibbles.now) a.out.now
+    at.invariant.1 ∙ ap (λ (n : ℕ). sets a.out.now 0 (tabulated (of_nibbles a.nibbles.now) n 0)) all ∙ filled_whole (of_nibbles a.nibbles.now) a.out.now
 
-pub join-nibbles-spec : {M : Type 1} → statement M
-join-nibbles-spec =
+pub join_nibbles_spec : {M : Type 1} → statement M
+join_nibbles_spec =
     tie.close
     (tie.spec
     invariant-loop

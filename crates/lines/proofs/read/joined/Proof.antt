@@ -39,5 +39,5 @@ returns c =
     let high = c.args.high in
     eqb-true (eight low high) (low + 16 * high) (swept (joins low) 16 (swept (λ low. every (joins low) 16) 16 all_join low c.requires.0) high c.requires.1)
 
-pub joined-spec : {M : Type 1} → statement M
-joined-spec = tie.close (tie.spec mul-both add-both cast-result returns)
+pub joined_spec : {M : Type 1} → statement M
+joined_spec = tie.close (tie.spec mul-both add-both cast-result returns)

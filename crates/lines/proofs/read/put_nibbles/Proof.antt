@@ -6,14 +6,14 @@ use native.Mathlib.Omega.{arith}
 use lib.ListN.{length, set, length-set}
 use lib.Seq.{sets}
 use Rattle.ground.specs.Sweep.{tabulated}
-use Rattle.ground.proofs.Lists.{filled_next, filled-whole}
-use Rattle.lines.specs.Nibbles.{nibbleIn}
+use Rattle.ground.proofs.Lists.{filled_next, filled_whole}
+use Rattle.lines.specs.Nibbles.{nibble_in}
 use borrow.Author.Rules.{rules}
 use Rattle.lines.proofs.read.put_nibbles.Statement.{statement}
 use Rattle.lines.proofs.read.put_nibbles.Tie as tie
 
 abbrev invariant-loop : tie.invariant-loop
-invariant-loop words out₀ k₀ out k = (k ≤ length words) × (out ≡ sets out₀ 0 (tabulated (nibbleIn words) k 0)) × (length out ≡ length out₀)
+invariant-loop words out₀ k₀ out k = (k ≤ length words) × (out ≡ sets out₀ 0 (tabulated (nibble_in words) k 0)) × (length out ≡ length out₀)
 
 abbrev decreases-loop : tie.decreases-loop
 decreases-loop words out₀ k₀ out k = length words - k
@@ -44,7 +44,7 @@ loop-again c =
     let a = c.before.before.before.before.before.before.args in
     let at = c.before.before.before.loop in (
       omega arith,
-      ap₂ (λ (l : List ℕ) (b : ℕ). set l at.k b) at.invariant.1 c.true-bits.ensures ∙ filled_next (nibbleIn a.words.now) a.out.now at.k,
+      ap₂ (λ (l : List ℕ) (b : ℕ). set l at.k b) at.invariant.1 c.true-bits.ensures ∙ filled_next (nibble_in a.words.now) a.out.now at.k,
       length-set at.out at.k c.true-bits.result ∙ at.invariant.2,
     )
 
@@ -57,11 +57,11 @@ returns c =
     let at = c.before.loop in
     let size : length a.out.now ≡ length a.words.now = c.before.before.before.before.requires in
     let all : at.k ≡ length a.out.now = omega arith in
-    at.invariant.1 ∙ ap (λ (n : ℕ). sets a.out.now 0 (tabulated (nibbleIn a.words.now) n 0)) all
-    ∙ filled-whole (nibbleIn a.words.now) a.out.now ∙ ap (λ (n : ℕ). tabulated (nibbleIn a.words.now) n 0) size
+    at.invariant.1 ∙ ap (λ (n : ℕ). sets a.out.now 0 (tabulated (nibble_in a.words.now) n 0)) all
+    ∙ filled_whole (nibble_in a.words.now) a.out.now ∙ ap (λ (n : ℕ). tabulated (nibble_in a.words.now) n 0) size
 
-pub put-nibbles-spec : {M : Type 1} → statement M
-put-nibbles-spec =
+pub put_nibbles_spec : {M : Type 1} → statement M
+put_nibbles_spec =
     tie.close
     (tie.spec
     invariant-loop

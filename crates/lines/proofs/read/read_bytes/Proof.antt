@@ -7,16 +7,16 @@ use mir.Facts.{Fits-le}
 use lib.ListN.{length}
 use lib.Seq.{sets, length-sets}
 use Rattle.ground.specs.Sweep.{tabulated}
-use Rattle.ground.proofs.Lists.{filled-room}
-use Rattle.lines.specs.Line.{byteAt}
-use Rattle.lines.proofs.Line.{byte_count, length-bytes, bytes-by-place}
+use Rattle.ground.proofs.Lists.{filled_room}
+use Rattle.lines.specs.Line.{byte_at}
+use Rattle.lines.proofs.Line.{byte_count, length_bytes, bytes_by_place}
 use Rattle.lines.proofs.Nibbles.{within, put}
 use Rattle.lines.proofs.read.read_bytes.Statement.{statement}
 use Rattle.lines.proofs.read.read_bytes.Tie as tie
 
 abbrev invariant-loop : tie.invariant-loop
 invariant-loop line out₀ many k₀ out k =
-    (many ≡ min (byte_count line) (length out₀)) × (k ≤ many) × (out ≡ sets out₀ 0 (tabulated (byteAt line) k 0)) × (length out ≡ length out₀)
+    (many ≡ min (byte_count line) (length out₀)) × (k ≤ many) × (out ≡ sets out₀ 0 (tabulated (byte_at line) k 0)) × (length out ≡ length out₀)
 
 abbrev decreases-loop : tie.decreases-loop
 decreases-loop line out₀ many k₀ out k = many - k
@@ -30,7 +30,7 @@ least-requires c κs = tt
 loop-holds : tie.Need-loop-init invariant-loop decreases-loop
 loop-holds c =
     let a = c.before.before.before.before.args in
-    (c.least.ensures ∙ ap (λ (n : ℕ). min n (length a.out.now)) (c.before.byte-count.ensures ∙ length-bytes a.line.now), omega arith, refl, refl)
+    (c.least.ensures ∙ ap (λ (n : ℕ). min n (length a.out.now)) (c.before.byte-count.ensures ∙ length_bytes a.line.now), omega arith, refl, refl)
 
 sub-least : tie.Need-overflow-sub-least invariant-loop decreases-loop
 sub-least c = omega arith
@@ -111,7 +111,7 @@ loop-again c =
       at.invariant.0,
       (within (length a.out.now) (length a.line.now) many at.k part.result at.invariant.0 c.before.before.before.before.before.before.loop-test.true part.ensures).1,
       stored,
-      ap length stored ∙ length-sets a.out.now 0 (tabulated (byteAt a.line.now) (at.k + part.result) 0),
+      ap length stored ∙ length-sets a.out.now 0 (tabulated (byte_at a.line.now) (at.k + part.result) 0),
     )
 
 same_length : tie.Need-same-length invariant-loop decreases-loop
@@ -122,11 +122,11 @@ returns c =
     let a = c.before.before.before.before.before.before.args in
     let at = c.before.loop in
     let all : at.k ≡ min (byte_count a.line.now) (length a.out.now) = omega (arith, at.invariant.0, at.invariant.1, c.loop-test.false) in
-    at.invariant.2 ∙ ap (λ (n : ℕ). sets a.out.now 0 (tabulated (byteAt a.line.now) n 0)) all
-    ∙ filled-room (byteAt a.line.now) a.out.now (byte_count a.line.now) ∙ ap (sets a.out.now 0) (sym (bytes-by-place a.line.now))
+    at.invariant.2 ∙ ap (λ (n : ℕ). sets a.out.now 0 (tabulated (byte_at a.line.now) n 0)) all
+    ∙ filled_room (byte_at a.line.now) a.out.now (byte_count a.line.now) ∙ ap (sets a.out.now 0) (sym (bytes_by_place a.line.now))
 
-pub read-bytes-spec : {M : Type 1} → statement M
-read-bytes-spec =
+pub read_bytes_spec : {M : Type 1} → statement M
+read_bytes_spec =
     tie.close
     (tie.spec
     invariant-loop

@@ -6,16 +6,16 @@ use native.Mathlib.Omega.{arith}
 use lib.ListN.{length, get_or, take, drop, length-append}
 use lib.Seq.{length-take-le, take_at}
 use Rattle.ground.specs.Sweep.{tabulated}
-use Rattle.ground.proofs.Sweep.{length-tabulated}
-use Rattle.characters.proofs.Nibble.{true-bits-lt}
-use Rattle.lines.specs.Nibbles.{nibbleIn, twoOf}
-use Rattle.lines.proofs.Nibbles.{nibbles, nibbles-at, nibbles-joined}
+use Rattle.ground.proofs.Sweep.{length_tabulated}
+use Rattle.characters.proofs.Nibble.{true_bits_lt}
+use Rattle.lines.specs.Nibbles.{nibble_in, two_of}
+use Rattle.lines.proofs.Nibbles.{nibbles, nibbles_at, nibbles_joined}
 use borrow.Author.Rules.{rules}
 use Rattle.lines.proofs.read.read_part.Statement.{statement}
 use Rattle.lines.proofs.read.read_part.Tie as tie
 
 size : (words : List ℕ) → length (nibbles words) ≡ length words
-size words = length-tabulated (nibbleIn words) (length words) 0
+size words = length_tabulated (nibble_in words) (length words) 0
 
 -- what is lent again of the array
 lent : (words part rest : List ℕ) → part ≡ nibbles words → take (length words) (part ++ rest) ≡ nibbles words
@@ -55,7 +55,7 @@ join-nibbles-requires c κs =
     let put = c.before.before.before.put-nibbles in
     let again = lent words put.new.1.0 (drop (length words) c.before.before.before.before.before.blank-nibbles.result) put.ensures in (
       ap length again ∙ size words ∙ c.before.before.before.before.before.before.before.before.requires.0,
-      λ k. omega (arith, ap (λ (l : List ℕ). get_or l k 0) again, nibbles-at words k, true-bits-lt (get_or words k 0)),
+      λ k. omega (arith, ap (λ (l : List ℕ). get_or l k 0) again, nibbles_at words k, true_bits_lt (get_or words k 0)),
     )
 
 same_length : tie.Need-same-length
@@ -68,10 +68,10 @@ returns c =
     let put = c.before.before.before.before.before.before.put-nibbles in
     let again = lent words put.new.1.0 (drop (length words) c.before.before.before.before.before.before.before.before.blank-nibbles.result) put.ensures in
     c.before.before.join-nibbles.ensures
-    ∙ ap (λ (l : List ℕ). tabulated (twoOf (λ i. get_or l i 0)) (length a.out.now) 0) again ∙ nibbles-joined words (length a.out.now)
+    ∙ ap (λ (l : List ℕ). tabulated (two_of (λ i. get_or l i 0)) (length a.out.now) 0) again ∙ nibbles_joined words (length a.out.now)
 
-pub read-part-spec : {M : Type 1} → statement M
-read-part-spec =
+pub read_part_spec : {M : Type 1} → statement M
+read_part_spec =
     tie.close
     (tie.spec
     blank-nibbles-requires

@@ -19,6 +19,6 @@ returns-2 c = simp (ne_eqb _ _ c.before.before.if1.false, eq-eqb _ _ c.before.if
 returns-3 : tie.Need-returns-3
 returns-3 c = simp (ne_eqb _ _ c.before.if1.false, ne_eqb _ _ c.if2.false)
 
-pub change-asked-spec : {M : Type 1} → statement M
-change-asked-spec =
+pub change_asked_spec : {M : Type 1} → statement M
+change_asked_spec =
     tie.close (tie.spec stored-requires returns stored-requires-2 returns-2 returns-3)

@@ -3,9 +3,9 @@ use mathlib.Core.Path.{◌≡◌, refl, sym, ap, ◌∙◌}
 use mathlib.Core.Bool.{Bool, true, false, cond}
 use borrow.Author.Tests.{not-true, not-false}
 use Rattle.writing.specs.PutLine.{out_of}
-use Rattle.hearing.specs.Hear.{isPlace}
-use Rattle.underway.specs.TakeUp.{handedBytes, isMet}
-use Rattle.passage.proofs.Passing.{not-acting, no_place, is-possible, acts-by, passed-by}
+use Rattle.hearing.specs.Hear.{is_place}
+use Rattle.underway.specs.TakeUp.{handed_bytes, is_met}
+use Rattle.passage.proofs.Passing.{not_acting, no_place, is_possible, acts_by, passed_by}
 use borrow.Author.Rules.{rules}
 use Rattle.passage.proofs.pass.pass.Statement.{statement}
 use Rattle.passage.proofs.pass.pass.Tie as tie
@@ -16,7 +16,7 @@ is-place-requires c κs = search rules
 returns : tie.Need-returns
 returns c =
     let a = c.before.before.before.before.args in
-    not-acting a.n a.device a.registers.now a.line.now _
+    not_acting a.n a.device a.registers.now a.line.now _
     (no_place a.n a.device a.registers.now a.line.now (sym c.before.is-place.ensures ∙ not-true c.before.is-place.result c.if1.true)) refl
 
 hear-requires : tie.Need-hear-requires
@@ -44,12 +44,12 @@ returns-2 c =
     let up = c.before.before.before.take-up in
     let q = c.before.before.before.before.before.before.before.before.hear.result in
     let m = c.before.before.before.before.before.carried-by.result in
-    let place : isPlace a.n a.device ≡ true = sym c.before.before.before.before.before.before.before.before.before.before.before.is-place.ensures ∙ not-false c.before.before.before.before.before.before.before.before.before.before.before.is-place.result c.before.before.before.before.before.before.before.before.before.before.if1.false in
-    let can = is-possible a.n a.device a.registers.now line q c.before.before.before.before.before.before.before.before.hear.ensures m c.before.before.before.before.before.carried-by.ensures place in
-    let test = acts-by a.n a.device a.registers.now line q c.before.before.before.before.before.before.before.before.hear.ensures m c.before.before.before.before.before.carried-by.ensures place can in
-    let refused : isMet q a.device m line ≡ false = sym up.ensures.says ∙ not-true up.result c.if2.true in
-    not-acting a.n a.device a.registers.now line up.new.1.1.1.1.0 (sym test ∙ refused)
-    (up.ensures.leaves ∙ ap (λ (t : Bool). cond t (out_of (handedBytes q a.device c.before.before.before.before.before.before.word-or-zero.result m line) line) line) refused)
+    let place : is_place a.n a.device ≡ true = sym c.before.before.before.before.before.before.before.before.before.before.before.is-place.ensures ∙ not-false c.before.before.before.before.before.before.before.before.before.before.before.is-place.result c.before.before.before.before.before.before.before.before.before.before.if1.false in
+    let can = is_possible a.n a.device a.registers.now line q c.before.before.before.before.before.before.before.before.hear.ensures m c.before.before.before.before.before.carried-by.ensures place in
+    let test = acts_by a.n a.device a.registers.now line q c.before.before.before.before.before.before.before.before.hear.ensures m c.before.before.before.before.before.carried-by.ensures place can in
+    let refused : is_met q a.device m line ≡ false = sym up.ensures.says ∙ not-true up.result c.if2.true in
+    not_acting a.n a.device a.registers.now line up.new.1.1.1.1.0 (sym test ∙ refused)
+    (up.ensures.leaves ∙ ap (λ (t : Bool). cond t (out_of (handed_bytes q a.device c.before.before.before.before.before.before.word-or-zero.result m line) line) line) refused)
 
 change-asked-requires : tie.Need-change-asked-requires
 change-asked-requires c κs = search rules
@@ -64,13 +64,13 @@ returns-3 c =
     let up = c.before.before.before.before.take-up in
     let q = c.before.before.before.before.before.before.before.before.before.hear.result in
     let m = c.before.before.before.before.before.before.carried-by.result in
-    let place : isPlace a.n a.device ≡ true = sym c.before.before.before.before.before.before.before.before.before.before.before.before.is-place.ensures ∙ not-false c.before.before.before.before.before.before.before.before.before.before.before.before.is-place.result c.before.before.before.before.before.before.before.before.before.before.before.if1.false in
-    let can = is-possible a.n a.device a.registers.now line q c.before.before.before.before.before.before.before.before.before.hear.ensures m c.before.before.before.before.before.before.carried-by.ensures place in
-    let test = acts-by a.n a.device a.registers.now line q c.before.before.before.before.before.before.before.before.before.hear.ensures m c.before.before.before.before.before.before.carried-by.ensures place can in
-    let taken : isMet q a.device m line ≡ true = sym up.ensures.says ∙ not-false up.result c.before.if2.false in
-    passed-by a.n a.device a.registers.now line q c.before.before.before.before.before.before.before.before.before.hear.ensures m c.before.before.before.before.before.before.carried-by.ensures place can
+    let place : is_place a.n a.device ≡ true = sym c.before.before.before.before.before.before.before.before.before.before.before.before.is-place.ensures ∙ not-false c.before.before.before.before.before.before.before.before.before.before.before.before.is-place.result c.before.before.before.before.before.before.before.before.before.before.before.if1.false in
+    let can = is_possible a.n a.device a.registers.now line q c.before.before.before.before.before.before.before.before.before.hear.ensures m c.before.before.before.before.before.before.carried-by.ensures place in
+    let test = acts_by a.n a.device a.registers.now line q c.before.before.before.before.before.before.before.before.before.hear.ensures m c.before.before.before.before.before.before.carried-by.ensures place can in
+    let taken : is_met q a.device m line ≡ true = sym up.ensures.says ∙ not-false up.result c.before.if2.false in
+    passed_by a.n a.device a.registers.now line q c.before.before.before.before.before.before.before.before.before.hear.ensures m c.before.before.before.before.before.before.carried-by.ensures place can
     c.before.before.before.before.before.before.before.word-or-zero.result up.new.1.1.1.1.0 c.change-asked.result c.before.before.before.before.before.before.before.word-or-zero.ensures (sym test ∙ taken)
-    (up.ensures.leaves ∙ ap (λ (t : Bool). cond t (out_of (handedBytes q a.device c.before.before.before.before.before.before.before.word-or-zero.result m line) line) line) taken)
+    (up.ensures.leaves ∙ ap (λ (t : Bool). cond t (out_of (handed_bytes q a.device c.before.before.before.before.before.before.before.word-or-zero.result m line) line) line) taken)
     c.change-asked.ensures
 
 pub pass_spec : {M : Type 1} → statement M

@@ -1,5 +1,5 @@
 -- `put` meets its contract: a store, or beyond the end none.
-use Rattle.printing.proofs.Laying.{laid_one, laid-beyond}
+use Rattle.printing.proofs.Laying.{laid_one, laid_beyond}
 use borrow.Author.Rules.{rules}
 use Rattle.printing.proofs.figures.put.Statement.{statement}
 use Rattle.printing.proofs.figures.put.Tie as tie
@@ -8,7 +8,7 @@ add-result : tie.Need-overflow-add-result
 add-result c = search rules
 
 returns : tie.Need-returns
-returns c = let a = c.before.args in laid-beyond a.text.now a.at a.byte c.if1.true
+returns c = let a = c.before.args in laid_beyond a.text.now a.at a.byte c.if1.true
 
 slice-write-text : tie.Need-slice-write-text
 slice-write-text c = search rules

@@ -7,7 +7,7 @@ use native.Mathlib.Numerals.{add-one}
 use lib.ListN.{length, take}
 use lib.Seq.{take-suc, take_all, length-take-le}
 use Rattle.printing.specs.Print.{StoredAt}
-use Rattle.printing.proofs.Laying.{laid-nothing, laid_more}
+use Rattle.printing.proofs.Laying.{laid_nothing, laid_more}
 use Rattle.printing.proofs.figures.put_all.Statement.{statement}
 use Rattle.printing.proofs.figures.put_all.Tie as tie
 
@@ -18,7 +18,7 @@ abbrev decreases-loop : tie.decreases-loop
 decreases-loop text₀ at bytes end₀ i₀ text end i = length bytes - i
 
 loop-holds : tie.Need-loop-init invariant-loop decreases-loop
-loop-holds c = (omega arith, refl, laid-nothing _ _)
+loop-holds c = (omega arith, refl, laid_nothing _ _)
 
 shared-slice-read-put : tie.Need-shared-slice-read-put invariant-loop decreases-loop
 shared-slice-read-put c = omega arith
@@ -53,8 +53,8 @@ returns c =
     let a = c.before.before.before.before.args in
     subst (λ (l : List ℕ). StoredAt a.text.now a.at l now.text now.end) (take_all now.i a.bytes.now c.loop-test.false) now.invariant.2
 
-pub put-all-spec : {M : Type 1} → statement M
-put-all-spec =
+pub put_all_spec : {M : Type 1} → statement M
+put_all_spec =
     tie.close
     (tie.spec
     invariant-loop

@@ -5,14 +5,14 @@ use native.Mathlib.Omega.{arith}
 use lib.Dec.{leb}
 use borrow.Author.Rules.{rules}
 use borrow.Author.Tests.{le-leb, lt-leb}
-use Rattle.printing.proofs.Laying.{laid-if, laid-unless}
+use Rattle.printing.proofs.Laying.{laid_if, laid_unless}
 use Rattle.printing.proofs.figures.put_figure.Statement.{statement}
 use Rattle.printing.proofs.figures.put_figure.Tie as tie
 
 returns : tie.Need-returns
 returns c =
     let a = c.before.before.args in
-    laid-unless a.text.now a.at (leb a.worth a.v) ((0x30 + a.v / a.worth % 10) ∷ []) (lt-leb a.worth a.v (omega arith))
+    laid_unless a.text.now a.at (leb a.worth a.v) ((0x30 + a.v / a.worth % 10) ∷ []) (lt-leb a.worth a.v (omega arith))
 
 div-put : tie.Need-nonzero-div-put
 div-put c = search rules
@@ -32,7 +32,7 @@ same_length c = search rules
 returns-2 : tie.Need-returns-2
 returns-2 c =
     let a = c.before.before.before.before.before.before.args in
-    laid-if (leb a.worth a.v) ((0x30 + a.v / a.worth % 10) ∷ []) (le-leb a.worth a.v (omega arith)) c.before.before.put.ensures
+    laid_if (leb a.worth a.v) ((0x30 + a.v / a.worth % 10) ∷ []) (le-leb a.worth a.v (omega arith)) c.before.before.put.ensures
 
-pub put-figure-spec : {M : Type 1} → statement M
-put-figure-spec = tie.close (tie.spec returns div-put add-put cast-put put-requires same_length returns-2)
+pub put_figure_spec : {M : Type 1} → statement M
+put_figure_spec = tie.close (tie.spec returns div-put add-put cast-put put-requires same_length returns-2)

@@ -1,9 +1,9 @@
 -- `put_device` meets its contract: its mark, the number, a space, the device's letter and the line feed, one behind the other.
 use native.Mathlib.Omega.{arith}
 use borrow.Author.Rules.{rules}
-use Rattle.printing.specs.Text.{deviceLine}
+use Rattle.printing.specs.Text.{device_line}
 use Rattle.printing.proofs.Laying.{laid_then}
-use Rattle.printing.proofs.Lengths.{decimal-most}
+use Rattle.printing.proofs.Lengths.{decimal_most}
 use Rattle.printing.proofs.text_lines.put_device.Statement.{statement}
 use Rattle.printing.proofs.text_lines.put_device.Tie as tie
 
@@ -17,19 +17,19 @@ put-number-requires : tie.Need-put-number-requires
 put-number-requires c κs = search rules
 
 put-requires : tie.Need-put-requires
-put-requires c κs = omega (arith, decimal-most c.before.before.before.before.before.before.before.before.before.before.before.args.device)
+put-requires c κs = omega (arith, decimal_most c.before.before.before.before.before.before.before.before.before.before.before.args.device)
 
 put-requires-2 : tie.Need-put-requires-2
-put-requires-2 c κs = omega (arith, decimal-most c.before.before.before.before.before.before.before.before.before.before.before.before.before.before.before.args.device)
+put-requires-2 c κs = omega (arith, decimal_most c.before.before.before.before.before.before.before.before.before.before.before.before.before.before.before.args.device)
 
 put-requires-3 : tie.Need-put-requires-3
-put-requires-3 c κs = omega (arith, decimal-most c.before.before.before.before.before.before.before.before.before.before.before.before.before.before.before.before.before.before.before.args.device)
+put-requires-3 c κs = omega (arith, decimal_most c.before.before.before.before.before.before.before.before.before.before.before.before.before.before.before.before.before.before.before.args.device)
 
 same_length : tie.Need-same-length
 same_length c = search rules
 
 returns : tie.Need-returns
-unfolding deviceLine
+unfolding device_line
 returns c =
     let own = c.before.before.before.before.before.before in
     let space = own.before.before.before.before in
@@ -37,8 +37,8 @@ returns c =
     laid_then number.before.before.before.before.put_all_lem.ensures
     (laid_then number.put-number.ensures (laid_then space.put.ensures (laid_then own.put2.ensures c.before.before.put3.ensures)))
 
-pub put-device-spec : {M : Type 1} → statement M
-put-device-spec =
+pub put_device_spec : {M : Type 1} → statement M
+put_device_spec =
     tie.close
     (tie.spec
     slice-aggregate-put-all

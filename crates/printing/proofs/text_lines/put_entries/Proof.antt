@@ -5,8 +5,8 @@ use native.Mathlib.Omega.{arith}
 use lib.ListN.{length}
 use Rattle.printing.specs.Text.{first_lines}
 use Rattle.printing.specs.Print.{StoredAt}
-use Rattle.printing.proofs.Laying.{laid-nothing, laid-line}
-use Rattle.printing.proofs.Lengths.{entry_at, entries-most}
+use Rattle.printing.proofs.Laying.{laid_nothing, laid_line}
+use Rattle.printing.proofs.Lengths.{entry_at, entries_most}
 use Rattle.printing.proofs.text_lines.put_entries.Statement.{statement}
 use Rattle.printing.proofs.text_lines.put_entries.Tie as tie
 
@@ -18,7 +18,7 @@ decreases-loop text₀ at numbers end₀ k₀ text end k = length numbers - k
 
 loop-holds : tie.Need-loop-init invariant-loop decreases-loop
 unfolding first_lines
-loop-holds c = (omega arith, refl, laid-nothing _ _)
+loop-holds c = (omega arith, refl, laid_nothing _ _)
 
 add-put-entry : tie.Need-overflow-add-put-entry invariant-loop decreases-loop
 add-put-entry c = omega arith
@@ -29,7 +29,7 @@ shared-slice-read-put-entry c = omega arith
 put-entry-requires : tie.Need-put-entry-requires invariant-loop decreases-loop
 put-entry-requires c κs =
     let now = c.before.before.before.loop in
-    omega (arith, now.invariant.2.up, entries-most c.before.before.before.before.before.before.args.numbers.now now.k)
+    omega (arith, now.invariant.2.up, entries_most c.before.before.before.before.before.before.args.numbers.now now.k)
 
 add-k : tie.Need-overflow-add-k invariant-loop decreases-loop
 add-k c = omega arith
@@ -42,7 +42,7 @@ loop-again c =
     let now = c.before.before.before.before.before.before.loop in (
       omega arith,
       c.before.before.put-entry.auto.0 ∙ now.invariant.1,
-      laid-line (entry_at c.before.before.before.before.before.before.before.before.before.args.numbers.now) now.k now.invariant.2 c.before.before.put-entry.ensures,
+      laid_line (entry_at c.before.before.before.before.before.before.before.before.before.args.numbers.now) now.k now.invariant.2 c.before.before.put-entry.ensures,
     )
 
 same_length : tie.Need-same-length invariant-loop decreases-loop
@@ -55,8 +55,8 @@ returns c =
     let all : now.k ≡ length a.numbers.now = omega arith in
     subst (λ (k : ℕ). StoredAt a.text.now a.at (first_lines (entry_at a.numbers.now) k) now.text now.end) all now.invariant.2
 
-pub put-entries-spec : {M : Type 1} → statement M
-put-entries-spec =
+pub put_entries_spec : {M : Type 1} → statement M
+put_entries_spec =
     tie.close
     (tie.spec
     invariant-loop

@@ -1,6 +1,6 @@
 -- `put_head` meets its contract: its mark is `BMC ` and its numbers are the file's version and n.
 use borrow.Author.Rules.{rules}
-use Rattle.printing.specs.Text.{headLine}
+use Rattle.printing.specs.Text.{head_line}
 use Rattle.printing.proofs.text_lines.put_head.Statement.{statement}
 use Rattle.printing.proofs.text_lines.put_head.Tie as tie
 
@@ -14,8 +14,8 @@ same_length : tie.Need-same-length
 same_length c = search rules
 
 returns : tie.Need-returns
-unfolding headLine
+unfolding head_line
 returns c = c.before.before.put-numbers.ensures
 
-pub put-head-spec : {M : Type 1} → statement M
-put-head-spec = tie.close (tie.spec slice-aggregate-put-numbers put-numbers-requires same_length returns)
+pub put_head_spec : {M : Type 1} → statement M
+put_head_spec = tie.close (tie.spec slice-aggregate-put-numbers put-numbers-requires same_length returns)

@@ -2,7 +2,7 @@
 use native.Mathlib.Omega.{arith}
 use borrow.Author.Rules.{rules}
 use Rattle.printing.proofs.Laying.{laid_then}
-use Rattle.printing.proofs.Lengths.{decimal-most}
+use Rattle.printing.proofs.Lengths.{decimal_most}
 use Rattle.printing.proofs.text_lines.put_numbers.Statement.{statement}
 use Rattle.printing.proofs.text_lines.put_numbers.Tie as tie
 
@@ -13,13 +13,13 @@ put-number-requires : tie.Need-put-number-requires
 put-number-requires c κs = search rules
 
 put-requires : tie.Need-put-requires
-put-requires c κs = omega (arith, decimal-most c.before.before.before.before.before.before.before.before.before.before.before.args.a)
+put-requires c κs = omega (arith, decimal_most c.before.before.before.before.before.before.before.before.before.before.before.args.a)
 
 put-number-requires-2 : tie.Need-put-number-requires-2
-put-number-requires-2 c κs = omega (arith, decimal-most c.before.before.before.before.before.before.before.before.before.before.before.before.before.before.before.args.a)
+put-number-requires-2 c κs = omega (arith, decimal_most c.before.before.before.before.before.before.before.before.before.before.before.before.before.before.before.args.a)
 
 put-requires-2 : tie.Need-put-requires-2
-put-requires-2 c κs = let a = c.before.before.before.before.before.before.before.before.before.before.before.before.before.before.before.before.before.before.before.args in omega (arith, decimal-most a.a, decimal-most a.b)
+put-requires-2 c κs = let a = c.before.before.before.before.before.before.before.before.before.before.before.before.before.before.before.before.before.before.before.args in omega (arith, decimal_most a.a, decimal_most a.b)
 
 same_length : tie.Need-same-length
 same_length c = search rules
@@ -32,8 +32,8 @@ returns c =
     laid_then first.before.before.before.before.put_all_lem.ensures
     (laid_then first.put-number.ensures (laid_then space.put.ensures (laid_then second.put-number2.ensures c.before.before.put2.ensures)))
 
-pub put-numbers-spec : {M : Type 1} → statement M
-put-numbers-spec =
+pub put_numbers_spec : {M : Type 1} → statement M
+put_numbers_spec =
     tie.close
     (tie.spec
     put-all-requires

@@ -1,19 +1,19 @@
 -- `is_good_chain` meets its contract: at each `return` the tests before it decide the definition.
 use borrow.Author.Tests.{le-leb, lt-leb, eq-eqb, ne_eqb}
-use Rattle.questions.specs.Question.{goodChain}
+use Rattle.questions.specs.Question.{good_chain}
 use Rattle.questions.proofs.question.is_good_chain.Statement.{statement}
 use Rattle.questions.proofs.question.is_good_chain.Tie as tie
 
 returns : tie.Need-returns
-unfolding goodChain
+unfolding good_chain
 returns c = simp (lt-leb _ _ c.if1.true)
 
 returns-2 : tie.Need-returns-2
-unfolding goodChain
+unfolding good_chain
 returns-2 c = simp (le-leb _ _ c.before.before.if1.false, lt-leb _ _ c.if2.true)
 
 returns-3 : tie.Need-returns-3
-unfolding goodChain
+unfolding good_chain
 returns-3 c =
     simp (
       le-leb _ _ c.before.before.before.before.if1.false,
@@ -22,7 +22,7 @@ returns-3 c =
     )
 
 returns-4 : tie.Need-returns-4
-unfolding goodChain
+unfolding good_chain
 returns-4 c =
     simp (
       le-leb _ _ c.before.before.before.before.before.if1.false,
@@ -32,7 +32,7 @@ returns-4 c =
     )
 
 returns-5 : tie.Need-returns-5
-unfolding goodChain
+unfolding good_chain
 returns-5 c =
     simp (
       le-leb _ _ c.before.before.before.before.if1.false,
@@ -41,5 +41,5 @@ returns-5 c =
       ne_eqb _ _ c.if4.false,
     )
 
-pub is-good-chain-spec : {M : Type 1} → statement M
-is-good-chain-spec = tie.close (tie.spec returns returns-2 returns-3 returns-4 returns-5)
+pub is_good_chain_spec : {M : Type 1} → statement M
+is_good_chain_spec = tie.close (tie.spec returns returns-2 returns-3 returns-4 returns-5)

@@ -2,7 +2,7 @@
 use mathlib.Core.Path.{sym, ap}
 use Prim.Native.Nat.{ℕ}
 use Rattle.questions.specs.Shape.{shape_at, shape_of}
-use Rattle.questions.proofs.ByKind.{last-kind}
+use Rattle.questions.proofs.ByKind.{last_kind}
 use borrow.Author.Rules.{rules}
 use Rattle.questions.proofs.question.shape_of.Statement.{statement}
 use Rattle.questions.proofs.question.shape_of.Tie as tie
@@ -91,10 +91,10 @@ returns-4 c = sym (ap (λ (k : ℕ). shape_at k c.before.before.args.q) c.match.
 
 returns-5 : tie.Need-returns-5
 unfolding shape_of
-returns-5 c = sym (last-kind c.before.before.args.q.kind _ _ _ _ _ c.match.rest.0.0.0.1 c.match.rest.0.0.1 c.match.rest.0.1 c.match.rest.1)
+returns-5 c = sym (last_kind c.before.before.args.q.kind _ _ _ _ _ c.match.rest.0.0.0.1 c.match.rest.0.0.1 c.match.rest.0.1 c.match.rest.1)
 
-pub shape-of-spec : {M : Type 1} → statement M
-shape-of-spec =
+pub shape_of_spec : {M : Type 1} → statement M
+shape_of_spec =
     tie.close
     (tie.spec
     cast-alive

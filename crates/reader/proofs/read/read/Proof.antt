@@ -1,11 +1,11 @@
 -- `read` meets its contract: a line that rows 1 to 6 turn away is turned away so, and nothing is written.
 use mathlib.Core.Path.{sym, ap, ◌∙◌}
 use lib.ListN.{length}
-use Rattle.lines.specs.Write.{atFront}
-use Rattle.readings.specs.Reading.{valuesTaken}
+use Rattle.lines.specs.Write.{at_front}
+use Rattle.readings.specs.Reading.{values_taken}
 use Rattle.readings.specs.declared.Reading.{Reading}
-use Rattle.judging.proofs.Screening.{turned-is-refused}
-use Rattle.reader.specs.Read.{valuesOn}
+use Rattle.judging.proofs.Screening.{turned_is_refused}
+use Rattle.reader.specs.Read.{values_on}
 use borrow.Author.Rules.{rules}
 use Rattle.reader.proofs.read.read.Statement.{statement}
 use Rattle.reader.proofs.read.read.Tie as tie
@@ -21,8 +21,8 @@ returns c =
     let a = c.before.before.before.before.before.before.args in
     let line = a.line.now in
     let out = a.out.now in
-    let refused = turned-is-refused a.q line (length out) _ (sym c.before.before.before.screen.ensures ∙ c.before.screened.given.1) in
-    record { says = refused; leaves = ap (λ (r : Reading). atFront (valuesOn line (valuesTaken r)) out) refused }
+    let refused = turned_is_refused a.q line (length out) _ (sym c.before.before.before.screen.ensures ∙ c.before.screened.given.1) in
+    record { says = refused; leaves = ap (λ (r : Reading). at_front (values_on line (values_taken r)) out) refused }
 
 enum_told : tie.Need-enum-told
 enum_told c = search rules

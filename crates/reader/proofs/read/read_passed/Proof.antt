@@ -5,13 +5,13 @@ use Prim.Native.Nat.{ℕ}
 use native.Mathlib.Omega.{arith}
 use lib.ListN.{length, take, drop, length-append}
 use lib.Seq.{length-take-le, take_at}
-use Rattle.lines.specs.Write.{atFront}
+use Rattle.lines.specs.Write.{at_front}
 use Rattle.lines.proofs.Line.{byte_count, all_read}
-use Rattle.readings.specs.Reading.{valuesTaken}
-use Rattle.contents.specs.InOrder.{judgeBytes}
-use Rattle.judging.proofs.Screening.{passed-is-judged}
-use Rattle.reader.specs.Read.{valuesIn, Carried}
-use Rattle.reader.proofs.Passed.{some_words, few_bytes, carried, same-values}
+use Rattle.readings.specs.Reading.{values_taken}
+use Rattle.contents.specs.InOrder.{judge_bytes}
+use Rattle.judging.proofs.Screening.{passed_is_judged}
+use Rattle.reader.specs.Read.{values_in, Carried}
+use Rattle.reader.proofs.Passed.{some_words, few_bytes, carried, same_values}
 use borrow.Author.Rules.{rules}
 use Rattle.reader.proofs.read.read_passed.Statement.{statement}
 use Rattle.reader.proofs.read.read_passed.Tie as tie
@@ -44,7 +44,7 @@ array-share-prefix-bytes c =
     let blank = c.before.before.before.blank-bytes.result in
     let count = byte_count a.line.now in
     let few = few_bytes a.q a.line.now (length a.out.now) c.before.before.before.before.before.before.requires in
-    omega (arith, length-append c.before.read-bytes.new.1.0 (drop count blank), c.before.read-bytes.auto.1.0, length-take-le count blank (omega (arith, c.before.before.before.blank-bytes.ensures, few)))
+    omega (arith, length-append c.before.read_bytes.new.1.0 (drop count blank), c.before.read_bytes.auto.1.0, length-take-le count blank (omega (arith, c.before.before.before.blank-bytes.ensures, few)))
 
 slice-aggregate-read-off : tie.Need-slice-aggregate-read-off
 slice-aggregate-read-off c =
@@ -52,8 +52,8 @@ slice-aggregate-read-off c =
     let blank = c.before.before.before.before.blank-bytes.result in
     let count = byte_count a.line.now in
     let few = few_bytes a.q a.line.now (length a.out.now) c.before.before.before.before.before.before.before.requires in
-    let part = c.before.before.read-bytes.new.1.0 in
-    let size : length part ≡ count = c.before.before.read-bytes.auto.1.0 ∙ length-take-le count blank (omega (arith, c.before.before.before.before.blank-bytes.ensures, few)) in
+    let part = c.before.before.read_bytes.new.1.0 in
+    let size : length part ≡ count = c.before.before.read_bytes.auto.1.0 ∙ length-take-le count blank (omega (arith, c.before.before.before.before.blank-bytes.ensures, few)) in
     sym (ap length (take_at part (drop count blank) count size) ∙ size)
 
 read-off-requires : tie.Need-read-off-requires
@@ -64,10 +64,10 @@ read-off-requires c κs =
     let count = byte_count line in
     let room = length a.out.now in
     let passed = c.before.before.before.before.before.before.before.before.requires in
-    let part = c.before.before.before.read-bytes.new.1.0 in
+    let part = c.before.before.before.read_bytes.new.1.0 in
     let size = length-take-le count blank (omega (arith, c.before.before.before.before.before.blank-bytes.ensures, few_bytes a.q line room passed)) in
-    let all = take_at part (drop count blank) count (c.before.before.before.read-bytes.auto.1.0 ∙ size) ∙ c.before.before.before.read-bytes.ensures ∙ all_read line (take count blank) size in
-    subst (λ (l : List ℕ). Carried l (valuesTaken (judgeBytes a.q l)) room) (sym all) (carried a.q line room passed)
+    let all = take_at part (drop count blank) count (c.before.before.before.read_bytes.auto.1.0 ∙ size) ∙ c.before.before.before.read_bytes.ensures ∙ all_read line (take count blank) size in
+    subst (λ (l : List ℕ). Carried l (values_taken (judge_bytes a.q l)) room) (sym all) (carried a.q line room passed)
 
 same_length : tie.Need-same-length
 same_length c = search rules
@@ -80,18 +80,18 @@ returns c =
     let count = byte_count line in
     let out = a.out.now in
     let passed = c.before.before.before.before.before.before.before.before.before.before.before.requires in
-    let part = c.before.before.before.before.before.before.read-bytes.new.1.0 in
+    let part = c.before.before.before.before.before.before.read_bytes.new.1.0 in
     let size = length-take-le count blank (omega (arith, c.before.before.before.before.before.before.before.before.blank-bytes.ensures, few_bytes a.q line (length out) passed)) in
-    let all = take_at part (drop count blank) count (c.before.before.before.before.before.before.read-bytes.auto.1.0 ∙ size) ∙ c.before.before.before.before.before.before.read-bytes.ensures ∙ all_read line (take count blank) size in
+    let all = take_at part (drop count blank) count (c.before.before.before.before.before.before.read_bytes.auto.1.0 ∙ size) ∙ c.before.before.before.before.before.before.read_bytes.ensures ∙ all_read line (take count blank) size in
     let done = c.before.before.read_off.ensures in
     record {
-      says = done.says ∙ ap (judgeBytes a.q) all ∙ passed-is-judged a.q line (length out) passed;
-      leaves = done.leaves ∙ ap (λ (l : List ℕ). atFront (valuesIn l (valuesTaken (judgeBytes a.q l))) out) all
-          ∙ ap (λ (l : List ℕ). atFront l out) (same-values a.q line (length out) passed);
+      says = done.says ∙ ap (judge_bytes a.q) all ∙ passed_is_judged a.q line (length out) passed;
+      leaves = done.leaves ∙ ap (λ (l : List ℕ). at_front (values_in l (values_taken (judge_bytes a.q l))) out) all
+          ∙ ap (λ (l : List ℕ). at_front l out) (same_values a.q line (length out) passed);
     }
 
-pub read-passed-spec : {M : Type 1} → statement M
-read-passed-spec =
+pub read_passed_spec : {M : Type 1} → statement M
+read_passed_spec =
     tie.close
     (tie.spec
     blank-bytes-requires

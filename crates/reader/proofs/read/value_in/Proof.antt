@@ -1,6 +1,6 @@
 -- `value_in` meets its contract: of m values the one k devices from the lowest stands m - 1 - k words behind the first two bytes.
 use mathlib.Core.Path.{◌∙◌}
-use Rattle.reader.proofs.Values.{value-at}
+use Rattle.reader.proofs.Values.{value_at}
 use borrow.Author.Rules.{rules}
 use Rattle.reader.proofs.read.value_in.Statement.{statement}
 use Rattle.reader.proofs.read.value_in.Tie as tie
@@ -33,10 +33,10 @@ returns : tie.Need-returns
 returns c =
     let a = c.before.before.before.before.args in
     let pre = c.before.before.before.before.requires in
-    c.join.ensures ∙ value-at a.bytes.now a.m pre.1 a.k pre.0
+    c.join.ensures ∙ value_at a.bytes.now a.m pre.1 a.k pre.0
 
-pub value-in-spec : {M : Type 1} → statement M
-value-in-spec =
+pub value_in_spec : {M : Type 1} → statement M
+value_in_spec =
     tie.close
     (tie.spec
     sub_at

@@ -2,8 +2,8 @@
 use mathlib.Core.Path.{ap, ◌∙◌}
 use native.Mathlib.Omega.{arith}
 use lib.ListN.{length-take}
-use Rattle.jobs.specs.Rules.{goodHeader}
-use Rattle.jobs.proofs.Entries.{parts, header-most}
+use Rattle.jobs.specs.Rules.{good_header}
+use Rattle.jobs.proofs.Entries.{parts, header_most}
 use borrow.Author.Rules.{rules}
 use Rattle.rehearsal.proofs.answer.answer_all.Statement.{statement}
 use Rattle.rehearsal.proofs.answer.answer_all.Tie as tie
@@ -20,17 +20,17 @@ blank-memory-requires c κs = search rules
 array-borrow-prefix-memory : tie.Need-array-borrow-prefix-memory
 array-borrow-prefix-memory c =
     let a = c.before.before.before.before.args in
-    omega (arith, header-most a.header (ap goodHeader c.before.before.before.before.requires.1 ∙ (parts a.file.now c.before.before.before.before.requires.0).header), c.blank-memory.ensures)
+    omega (arith, header_most a.header (ap good_header c.before.before.before.before.requires.1 ∙ (parts a.file.now c.before.before.before.before.requires.0).header), c.blank-memory.ensures)
 
 slice-aggregate-answer-from-power-on : tie.Need-slice-aggregate-answer-from-power-on
 slice-aggregate-answer-from-power-on c =
     let a = c.before.before.before.before.before.args in
-    simp length-take (omega (arith, header-most a.header (ap goodHeader c.before.before.before.before.before.requires.1 ∙ (parts a.file.now c.before.before.before.before.before.requires.0).header), c.before.blank-memory.ensures))
+    simp length-take (omega (arith, header_most a.header (ap good_header c.before.before.before.before.before.requires.1 ∙ (parts a.file.now c.before.before.before.before.before.requires.0).header), c.before.blank-memory.ensures))
 
 answer-from-power-on-requires : tie.Need-answer-from-power-on-requires
 answer-from-power-on-requires c κs =
     let a = c.before.before.before.before.before.before.args in
-    let most = header-most a.header (ap goodHeader c.before.before.before.before.before.before.requires.1 ∙ (parts a.file.now c.before.before.before.before.before.before.requires.0).header) in
+    let most = header_most a.header (ap good_header c.before.before.before.before.before.before.requires.1 ∙ (parts a.file.now c.before.before.before.before.before.before.requires.0).header) in
     (c.before.before.before.before.before.before.requires.0, c.before.before.before.before.before.before.requires.1, c.before.before.before.before.before.before.requires.2, simp length-take (omega (arith, most, c.before.before.blank-memory.ensures)))
 
 same_length : tie.Need-same-length
@@ -39,8 +39,8 @@ same_length c = search rules
 returns : tie.Need-returns
 returns c = search rules
 
-pub answer-all-spec : {M : Type 1} → statement M
-answer-all-spec =
+pub answer_all_spec : {M : Type 1} → statement M
+answer_all_spec =
     tie.close
     (tie.spec
     cast-end

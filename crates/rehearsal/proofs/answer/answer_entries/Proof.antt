@@ -3,10 +3,10 @@ use mathlib.Core.Path.{ap, ◌∙◌}
 use Prim.Native.Nat.{ℕ, ◌-◌}
 use native.Mathlib.Omega.{arith}
 use lib.ListN.{length}
-use Rattle.jobs.proofs.Sizes.{field-bounds}
+use Rattle.jobs.proofs.Sizes.{field_bounds}
 use Rattle.registers.specs.Memory.{is_chain}
 use Rattle.rehearsal.specs.declared.Places.{Places}
-use Rattle.rehearsal.proofs.Answering.{Going, going-first, going_on, low-place, all-answered}
+use Rattle.rehearsal.proofs.Answering.{Going, going_first, going_on, low_place, all_answered}
 use Rattle.rehearsal.proofs.answer.answer_entries.Statement.{statement}
 use Rattle.rehearsal.proofs.answer.answer_entries.Tie as tie
 
@@ -20,7 +20,7 @@ first-requires : tie.Need-first-requires invariant-loop decreases-loop
 first-requires c κs = tt
 
 loop-holds : tie.Need-loop-init invariant-loop decreases-loop
-loop-holds c = let a = c.before.before.before.before.args in going-first a.header a.file.now a.memory.now a.out.now c.before.before.before.before.requires _ c.first.ensures
+loop-holds c = let a = c.before.before.before.before.args in going_first a.header a.file.now a.memory.now a.out.now c.before.before.before.before.requires _ c.first.ensures
 
 answer-entry-requires : tie.Need-answer-entry-requires invariant-loop decreases-loop
 answer-entry-requires c κs =
@@ -29,11 +29,11 @@ answer-entry-requires c κs =
       c.before.before.if1.true,
       at.invariant.counts.good,
       ap (λ (n : ℕ). is_chain a.header.n n) at.invariant.chain ∙ c.before.before.before.before.before.before.before.before.before.requires.chain,
-      low-place a.header a.file.now a.memory.now a.out.now at.memory at.memory at.out at.out at.places at.places c.before.before.if1.true at.invariant c.before.before.before.before.before.before.before.before.before.requires,
+      low_place a.header a.file.now a.memory.now a.out.now at.memory at.memory at.out at.out at.places at.places c.before.before.if1.true at.invariant c.before.before.before.before.before.before.before.before.before.requires,
     )
 
 loop-less : tie.Need-loop-smaller invariant-loop decreases-loop
-loop-less c = omega (arith, ap (λ (p : Places). p.at) c.before.before.before.before.answer-entry.ensures.places, c.before.before.before.before.before.before.before.if1.true, (field-bounds c.before.before.before.before.before.before.before.before.before.before.before.before.before.before.args.header.version).0)
+loop-less c = omega (arith, ap (λ (p : Places). p.at) c.before.before.before.before.answer-entry.ensures.places, c.before.before.before.before.before.before.before.if1.true, (field_bounds c.before.before.before.before.before.before.before.before.before.before.before.before.before.before.args.header.version).0)
 
 loop-again : tie.Need-loop-preserved invariant-loop decreases-loop
 loop-again c =
@@ -51,10 +51,10 @@ returns : tie.Need-returns invariant-loop decreases-loop
 returns c =
     let a = c.before.before.before.before.before.before.before.args in
     let at = c.before.before.loop in
-    all-answered a.header a.file.now a.memory.now a.out.now at.memory at.out at.places c.if1.false at.invariant
+    all_answered a.header a.file.now a.memory.now a.out.now at.memory at.out at.places c.if1.false at.invariant
 
-pub answer-entries-spec : {M : Type 1} → statement M
-answer-entries-spec =
+pub answer_entries_spec : {M : Type 1} → statement M
+answer_entries_spec =
     tie.close
     (tie.spec
     invariant-loop

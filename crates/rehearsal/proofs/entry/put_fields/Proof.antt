@@ -42,8 +42,8 @@ returns c =
     let a = c.before.before.before.before.before.before.before.before.before.before.before.before.before.before.before.before.before.args in
     fields_laid a.version a.mask a.words a.to c.before.before.before.before.before.before.before.put-mask.result a.q a.out.now _ _ _ c.before.before.before.before.before.before.before.before.before.before.before.store.ensures c.before.before.before.before.before.before.before.put-mask.ensures c.before.before.store2.ensures
 
-pub put-fields-spec : {M : Type 1} → statement M
-put-fields-spec =
+pub put_fields_spec : {M : Type 1} → statement M
+put_fields_spec =
     tie.close
     (tie.spec
     cast-low

@@ -3,7 +3,7 @@ use mathlib.Core.Path.{sym, ◌∙◌}
 use native.Mathlib.Omega.{arith}
 use Prim.Native.Nat.{ℕ}
 use lib.ListN.{replicate, length-replicate, length-take}
-use Rattle.rehearsal.proofs.Sending.{not-sent, within, was-sent}
+use Rattle.rehearsal.proofs.Sending.{not_sent, within, was_sent}
 use borrow.Author.Rules.{rules}
 use Rattle.rehearsal.proofs.entry.send.Statement.{statement}
 use Rattle.rehearsal.proofs.entry.send.Tie as tie
@@ -20,19 +20,19 @@ enum-known-issued c = search rules
 returns : tie.Need-returns
 returns c =
     let a = c.before.before.before.before.before.before.args in
-    not-sent a.n a.q a.memory.now ((replicate {A = ℕ} 140 0)) ((length-replicate {A = ℕ} 140 0)) c.before.before.write-command.result a.line.now c.before.before.write-command.ensures.says c.match.keys2
+    not_sent a.n a.q a.memory.now ((replicate {A = ℕ} 140 0)) ((length-replicate {A = ℕ} 140 0)) c.before.before.write_command.result a.line.now c.before.before.write_command.ensures.says c.match.keys2
 
 array-share-prefix-command : tie.Need-array-share-prefix-command
 array-share-prefix-command c =
     let a = c.before.before.before.before.before.before.before.before.before.args in
-    let fits = within a.n a.q a.memory.now ((replicate {A = ℕ} 140 0)) ((length-replicate {A = ℕ} 140 0)) c.before.before.issued.given.0.0 (sym c.before.before.before.before.before.write-command.ensures.says ∙ c.before.before.issued.given.1) in
-    omega (arith, fits, c.before.before.before.before.before.write-command.auto.1.0, (length-replicate {A = ℕ} 140 0))
+    let fits = within a.n a.q a.memory.now ((replicate {A = ℕ} 140 0)) ((length-replicate {A = ℕ} 140 0)) c.before.before.issued.given.0.0 (sym c.before.before.before.before.before.write_command.ensures.says ∙ c.before.before.issued.given.1) in
+    omega (arith, fits, c.before.before.before.before.before.write_command.auto.1.0, (length-replicate {A = ℕ} 140 0))
 
 slice-aggregate-run-chain : tie.Need-slice-aggregate-run-chain
 slice-aggregate-run-chain c =
     let a = c.before.before.before.before.before.before.before.before.before.before.args in
-    let fits = within a.n a.q a.memory.now ((replicate {A = ℕ} 140 0)) ((length-replicate {A = ℕ} 140 0)) c.before.before.before.issued.given.0.0 (sym c.before.before.before.before.before.before.write-command.ensures.says ∙ c.before.before.before.issued.given.1) in
-    simp length-take (omega (arith, fits, c.before.before.before.before.before.before.write-command.auto.1.0, (length-replicate {A = ℕ} 140 0)))
+    let fits = within a.n a.q a.memory.now ((replicate {A = ℕ} 140 0)) ((length-replicate {A = ℕ} 140 0)) c.before.before.before.issued.given.0.0 (sym c.before.before.before.before.before.before.write_command.ensures.says ∙ c.before.before.before.issued.given.1) in
+    simp length-take (omega (arith, fits, c.before.before.before.before.before.before.write_command.auto.1.0, (length-replicate {A = ℕ} 140 0)))
 
 run-chain-requires : tie.Need-run-chain-requires
 run-chain-requires c κs = search rules
@@ -46,11 +46,11 @@ same-length-2 c = search rules
 returns-2 : tie.Need-returns-2
 returns-2 c =
     let a = c.before.before.before.before.before.before.before.before.before.before.before.before.before.before.before.before.args in
-    was-sent a.n a.q a.memory.now ((replicate {A = ℕ} 140 0)) ((length-replicate {A = ℕ} 140 0)) c.before.before.before.before.before.before.before.before.before.before.before.before.write-command.result c.before.before.before.before.before.before.before.before.before.issued.given.0.0 _ a.line.now _ _ c.before.before.before.before.run-chain.result
-    c.before.before.before.before.before.before.before.before.before.before.before.before.write-command.ensures c.before.before.before.before.before.before.before.before.before.issued.given.1 c.before.before.before.before.before.before.before.before.before.before.before.before.before.before.before.before.requires.0 c.before.before.before.before.before.before.before.before.before.before.before.before.before.before.before.before.requires.1 c.before.before.before.before.run-chain.ensures
+    was_sent a.n a.q a.memory.now ((replicate {A = ℕ} 140 0)) ((length-replicate {A = ℕ} 140 0)) c.before.before.before.before.before.before.before.before.before.before.before.before.write_command.result c.before.before.before.before.before.before.before.before.before.issued.given.0.0 _ a.line.now _ _ c.before.before.before.before.run_chain.result
+    c.before.before.before.before.before.before.before.before.before.before.before.before.write_command.ensures c.before.before.before.before.before.before.before.before.before.issued.given.1 c.before.before.before.before.before.before.before.before.before.before.before.before.before.before.before.before.requires.0 c.before.before.before.before.before.before.before.before.before.before.before.before.before.before.before.before.requires.1 c.before.before.before.before.run_chain.ensures
 
-pub send-spec : {M : Type 1} → statement M
-send-spec =
+pub send_spec : {M : Type 1} → statement M
+send_spec =
     tie.close
     (tie.spec
     slice-aggregate-write-command

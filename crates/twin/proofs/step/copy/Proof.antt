@@ -6,7 +6,7 @@ use native.Mathlib.Omega.{arith}
 use lib.ListN.{length, get_or, set, length-set}
 use lib.Seq.{sets}
 use Rattle.ground.specs.Sweep.{tabulated}
-use Rattle.ground.proofs.Lists.{filled_next, sets-front, tabulated-own}
+use Rattle.ground.proofs.Lists.{filled_next, sets_front, tabulated_own}
 use Rattle.twin.proofs.step.copy.Statement.{statement}
 use Rattle.twin.proofs.step.copy.Tie as tie
 
@@ -55,7 +55,7 @@ returns c =
     let line = c.before.before.args.line.now in
     let out = c.before.before.args.out.now in
     let all : at.i ≡ length line = omega arith in
-    at.invariant.1 ∙ ap (λ (n : ℕ). sets out 0 (tabulated (λ (k : ℕ). get_or line k 0) n 0)) all ∙ ap (sets out 0) (tabulated-own line) ∙ sets-front line out c.before.before.requires
+    at.invariant.1 ∙ ap (λ (n : ℕ). sets out 0 (tabulated (λ (k : ℕ). get_or line k 0) n 0)) all ∙ ap (sets out 0) (tabulated_own line) ∙ sets_front line out c.before.before.requires
 
 pub copy_spec : {M : Type 1} → statement M
 copy_spec =

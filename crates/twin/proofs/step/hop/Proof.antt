@@ -4,8 +4,8 @@ use mathlib.Core.Path.{◌≡◌, ap, ◌∙◌}
 use mathlib.Core.List.{List, ◌++◌}
 use Prim.Native.Nat.{ℕ, ◌+◌, ◌-◌, ◌*◌}
 use lib.ListN.{take, drop, length-take}
-use Rattle.passage.specs.Acting.{handedOn}
-use Rattle.twin.specs.Step.{withChange}
+use Rattle.passage.specs.Acting.{handed_on}
+use Rattle.twin.specs.Step.{with_change}
 use borrow.Author.Rules.{rules}
 use Rattle.twin.proofs.step.hop.Statement.{statement}
 use Rattle.twin.proofs.step.hop.Tie as tie
@@ -52,13 +52,13 @@ returns c =
     let line = take a.words a.out.now in
     let all : 256 * a.device + 256 - 256 * a.device ≡ 256 = omega arith in
     record {
-      remembers = c.before.before.keep.ensures ∙ ap (withChange a.memory.now a.device) c.before.before.before.before.before.before.pass.ensures.says;
+      remembers = c.before.before.keep.ensures ∙ ap (with_change a.memory.now a.device) c.before.before.before.before.before.before.pass.ensures.says;
       leaves = ap (λ (l : List ℕ). l ++ drop a.words a.out.now) (c.before.before.before.before.before.before.pass.ensures.leaves
-          ∙ ap (λ (k : ℕ). handedOn a.n a.device line (take k (drop (256 * a.device) a.memory.now))) all);
+          ∙ ap (λ (k : ℕ). handed_on a.n a.device line (take k (drop (256 * a.device) a.memory.now))) all);
     }
 
-pub hop-spec : {M : Type 1} → statement M
-hop-spec =
+pub hop_spec : {M : Type 1} → statement M
+hop_spec =
     tie.close
     (tie.spec
     mul-start

@@ -1,6 +1,6 @@
 -- `keep` meets its contract: the register at its place takes the value.
 use mathlib.Core.Path.{sym, ap}
-use Rattle.twin.specs.Step.{withChange}
+use Rattle.twin.specs.Step.{with_change}
 use borrow.Author.Rules.{rules}
 use Rattle.twin.proofs.step.keep.Statement.{statement}
 use Rattle.twin.proofs.step.keep.Tie as tie
@@ -35,7 +35,7 @@ same_length c = search rules
 returns-2 : tie.Need-returns-2
 returns-2 c =
     let a = c.before.before.before.args in
-    ap (withChange a.memory.now a.device) (sym c.before.change.given.1)
+    ap (with_change a.memory.now a.device) (sym c.before.change.given.1)
 
 pub keep_spec : {M : Type 1} → statement M
 keep_spec =

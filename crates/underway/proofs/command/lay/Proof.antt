@@ -1,10 +1,10 @@
 -- `lay` meets its contract: form by form.
 use Rattle.std.proofs.Common.{◌≡◌, ℕ, zero, suc, ◌-◌, ◌*◌, ◌/◌, ◌%◌, ◌<◌, ◌≤◌, List, [], ◌∷◌, ◌++◌, length, drop, sym, refl, ap, ◌∙◌, subst, ap₂, mod-eq_of_lt, arith, rules}
 use Rattle.questions.specs.Shape.{shape_of}
-use Rattle.questions.specs.Bytes.{lowHigh, sealed, fillPairs}
+use Rattle.questions.specs.Bytes.{low_high, sealed, fill_pairs}
 use Rattle.questions.specs.declared.question.Question.{Question}
 use Rattle.underway.specs.Lay.{Holds}
-use Rattle.underway.proofs.Way.{way-hello, way-write, way-read, pairs-left}
+use Rattle.underway.proofs.Way.{way_hello, way_write, way_read, pairs_left_lem}
 use Rattle.underway.proofs.command.lay.Statement.{statement}
 use Rattle.underway.proofs.command.lay.Tie as tie
 
@@ -12,15 +12,15 @@ use Rattle.underway.proofs.command.lay.Tie as tie
 low_byte : (q : Question) (first : ℕ) → (shape_of q).first < 256 → first ≡ (shape_of q).first → first % 256 ≡ (shape_of q).first
 low_byte q first h e = ap (λ (x : ℕ). x % 256) e ∙ mod-eq_of_lt h
 
-pos-of-ne : (k : ℕ) → (k ≡ 0 → ⊥) → 1 ≤ k
-pos-of-ne zero some = absurd (some refl)
-pos-of-ne (suc k) some = omega arith
+pos_of_ne : (k : ℕ) → (k ≡ 0 → ⊥) → 1 ≤ k
+pos_of_ne zero some = absurd (some refl)
+pos_of_ne (suc k) some = omega arith
 
 -- the values have two bytes each
-whole : (n size : ℕ) → size % 2 ≡ 0 → fillPairs (n - size / 2) ≡ drop size (fillPairs n)
+whole : (n size : ℕ) → size % 2 ≡ 0 → fill_pairs (n - size / 2) ≡ drop size (fill_pairs n)
 whole n size even =
     let twice : 2 * (size / 2) ≡ size = omega arith in
-    sym (pairs-left n (size / 2)) ∙ ap (λ (k : ℕ). drop k (fillPairs n)) twice
+    sym (pairs_left_lem n (size / 2)) ∙ ap (λ (k : ℕ). drop k (fill_pairs n)) twice
 
 shape-of-requires : tie.Need-shape-of-requires
 shape-of-requires c κs = search rules
@@ -39,7 +39,7 @@ returns c =
     let a = c.before.before.before.before.before.before.before.before.before.args in
     let first = low_byte a.q c.before.before.before.before.before.before.shape-of.result.first c.before.before.before.before.before.before.before.before.before.requires.0 (ap (λ s. s.first) c.before.before.before.before.before.before.shape-of.ensures) in
     subst (Holds c.before.before.lay-hello.new.1.1.0 c.before.before.lay-hello.result)
-    (ap (λ (x : ℕ). x ∷ 0 ∷ a.count ∷ []) first ∙ sym (way-hello a.q a.count a.added a.wire.now c.before.before.before.before.if1.true))
+    (ap (λ (x : ℕ). x ∷ 0 ∷ a.count ∷ []) first ∙ sym (way_hello a.q a.count a.added a.wire.now c.before.before.before.before.if1.true))
     c.before.before.lay-hello.ensures
 
 lay-write-requires : tie.Need-lay-write-requires
@@ -54,8 +54,8 @@ returns-2 c =
     let first = low_byte a.q c.before.before.before.before.before.before.before.shape-of.result.first c.before.before.before.before.before.before.before.before.before.before.requires.0 (ap (λ s. s.first) c.before.before.before.before.before.before.before.shape-of.ensures) in
     let some = c.before.before.before.before.before.if1.false in
     subst (Holds c.before.before.lay-write.new.1.1.1.0 c.before.before.lay-write.result)
-    (ap (λ (x : ℕ). sealed a.q a.added (x ∷ a.q.reg ∷ lowHigh a.q.value)) first
-    ∙ sym (way-write a.q a.count a.added a.wire.now (pos-of-ne a.q.kind some) c.before.before.before.before.if2.true))
+    (ap (λ (x : ℕ). sealed a.q a.added (x ∷ a.q.reg ∷ low_high a.q.value)) first
+    ∙ sym (way_write a.q a.count a.added a.wire.now (pos_of_ne a.q.kind some) c.before.before.before.before.if2.true))
     c.before.before.lay-write.ensures
 
 left-of-requires : tie.Need-left-of-requires
@@ -75,13 +75,13 @@ returns-3 c =
     let even = c.before.before.before.before.before.before.before.before.before.before.before.requires.3 in
     let pairs = c.before.before.before.before.left-of.ensures ∙ ap (λ s. s.values - length wire / 2) c.before.before.before.before.before.before.before.before.shape-of.ensures in
     subst (Holds c.before.before.lay-read.new.1.1.1.1.1.0 c.before.before.lay-read.result)
-    (ap₂ (λ (x p : ℕ). sealed a.q a.added (x ∷ a.q.reg ∷ (wire ++ (0 ∷ []))) ++ fillPairs p) first pairs
+    (ap₂ (λ (x p : ℕ). sealed a.q a.added (x ∷ a.q.reg ∷ (wire ++ (0 ∷ []))) ++ fill_pairs p) first pairs
     ∙ ap (λ (l : List ℕ). sealed a.q a.added ((shape_of a.q).first ∷ a.q.reg ∷ (wire ++ (0 ∷ []))) ++ l) (whole (shape_of a.q).values (length wire) even)
-    ∙ sym (way-read a.q a.count a.added wire c.before.before.before.before.before.if2.false))
+    ∙ sym (way_read a.q a.count a.added wire c.before.before.before.before.before.if2.false))
     c.before.before.lay-read.ensures
 
-pub lay-spec : {M : Type 1} → statement M
-lay-spec =
+pub lay_spec : {M : Type 1} → statement M
+lay_spec =
     tie.close
     (tie.spec
     shape-of-requires

@@ -18,5 +18,5 @@ returns c =
     let a = c.before.before.before.before.before.before.before.before.before.args in
     holds_then (a.first ∷ 0 ∷ []) (a.count ∷ []) c.before.before.before.before.before.before.lay-head.ensures c.before.before.push.ensures
 
-pub lay-hello-spec : {M : Type 1} → statement M
-lay-hello-spec = tie.close (tie.spec lay-head-requires push-requires same_length returns)
+pub lay_hello_spec : {M : Type 1} → statement M
+lay_hello_spec = tie.close (tie.spec lay-head-requires push-requires same_length returns)

@@ -1,9 +1,9 @@
 -- `lay_read` meets its contract: first byte, register, values and check, sealed, and the fill pairs behind.
 use Rattle.std.proofs.Common.{ℕ, List, [], ◌∷◌, ◌++◌, length, take, ap, subst, arith, length-append, rules}
-use Rattle.questions.specs.Bytes.{sealed, fillPairs}
+use Rattle.questions.specs.Bytes.{sealed, fill_pairs}
 use Rattle.underway.specs.Lay.{Holds}
 use Rattle.underway.proofs.Laying.{holds_then}
-use Rattle.underway.proofs.Way.{sealed-most}
+use Rattle.underway.proofs.Way.{sealed_most}
 use Rattle.underway.proofs.command.lay_read.Statement.{statement}
 use Rattle.underway.proofs.command.lay_read.Tie as tie
 
@@ -25,8 +25,8 @@ push-pairs-requires c κs =
     let wire = a.wire.now in
     let front = holds_then (a.first ∷ a.q.reg ∷ []) wire c.before.before.before.before.before.before.before.before.before.before.before.before.before.before.before.lay-head.ensures c.before.before.before.before.before.before.before.before.before.before.before.push-all.ensures in
     let covered = holds_then (a.first ∷ a.q.reg ∷ wire) (0 ∷ []) front c.before.before.before.before.before.before.before.push.ensures in
-    let sealed-up = c.before.before.before.seal.ensures.up in
-    omega (arith, sealed-up, sealed-most a.q a.added (take c.before.before.before.before.before.before.before.push.result c.before.before.before.before.before.before.before.push.new.0), ap length covered.front, length-append wire (0 ∷ []), c.before.before.before.before.before.before.before.before.before.before.before.before.before.before.before.lay-head.auto.1.1.0, c.before.before.before.before.before.before.before.before.before.before.before.push-all.auto.0, c.before.before.before.before.before.before.before.push.auto.0, c.before.before.before.seal.auto.1.1.0)
+    let sealed_up = c.before.before.before.seal.ensures.up in
+    omega (arith, sealed_up, sealed_most a.q a.added (take c.before.before.before.before.before.before.before.push.result c.before.before.before.before.before.before.before.push.new.0), ap length covered.front, length-append wire (0 ∷ []), c.before.before.before.before.before.before.before.before.before.before.before.before.before.before.before.lay-head.auto.1.1.0, c.before.before.before.before.before.before.before.before.before.before.before.push-all.auto.0, c.before.before.before.before.before.before.before.push.auto.0, c.before.before.before.seal.auto.1.1.0)
 
 same_length : tie.Need-same-length
 same_length c = search rules
@@ -38,10 +38,10 @@ returns c =
     let front = holds_then (a.first ∷ a.q.reg ∷ []) wire c.before.before.before.before.before.before.before.before.before.before.before.before.before.before.before.before.before.before.lay-head.ensures c.before.before.before.before.before.before.before.before.before.before.before.before.before.before.push-all.ensures in
     let covered = holds_then (a.first ∷ a.q.reg ∷ wire) (0 ∷ []) front c.before.before.before.before.before.before.before.before.before.before.push.ensures in
     let whole = subst (λ (l : List ℕ). Holds c.before.before.before.before.before.before.seal.new.1.1.0 c.before.before.before.before.before.before.seal.result (sealed a.q a.added l)) covered.front c.before.before.before.before.before.before.seal.ensures in
-    holds_then (sealed a.q a.added (a.first ∷ a.q.reg ∷ (wire ++ (0 ∷ [])))) (fillPairs a.pairs) whole c.before.before.push-pairs.ensures
+    holds_then (sealed a.q a.added (a.first ∷ a.q.reg ∷ (wire ++ (0 ∷ [])))) (fill_pairs a.pairs) whole c.before.before.push-pairs.ensures
 
-pub lay-read-spec : {M : Type 1} → statement M
-lay-read-spec =
+pub lay_read_spec : {M : Type 1} → statement M
+lay_read_spec =
     tie.close
     (tie.spec
     lay-head-requires

@@ -1,6 +1,6 @@
 -- `lay_write` meets its contract: first byte, register and value, sealed.
 use Rattle.std.proofs.Common.{ℕ, List, [], ◌∷◌, subst, rules}
-use Rattle.questions.specs.Bytes.{lowHigh, sealed}
+use Rattle.questions.specs.Bytes.{low_high, sealed}
 use Rattle.underway.specs.Lay.{Holds}
 use Rattle.underway.proofs.Laying.{holds_then}
 use Rattle.underway.proofs.command.lay_write.Statement.{statement}
@@ -21,9 +21,9 @@ same_length c = search rules
 returns : tie.Need-returns
 returns c =
     let a = c.before.before.before.before.before.before.before.before.before.before.before.before.before.args in
-    let held = holds_then (a.first ∷ a.q.reg ∷ []) (lowHigh a.q.value) c.before.before.before.before.before.before.before.before.before.before.lay-head.ensures c.before.before.before.before.before.before.push-value.ensures in
+    let held = holds_then (a.first ∷ a.q.reg ∷ []) (low_high a.q.value) c.before.before.before.before.before.before.before.before.before.before.lay-head.ensures c.before.before.before.before.before.before.push-value.ensures in
     subst (λ (l : List ℕ). Holds c.before.before.seal.new.1.1.0 c.before.before.seal.result (sealed a.q a.added l)) held.front c.before.before.seal.ensures
 
-pub lay-write-spec : {M : Type 1} → statement M
-lay-write-spec =
+pub lay_write_spec : {M : Type 1} → statement M
+lay_write_spec =
     tie.close (tie.spec lay-head-requires push-value-requires seal-requires same_length returns)

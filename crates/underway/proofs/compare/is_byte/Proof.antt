@@ -1,6 +1,6 @@
 -- `is_byte` meets its contract: both words are compared.
 use Rattle.std.proofs.Common.{◌+◌, ◌*◌, ◌/◌, ◌%◌, Bool, ◌&&◌, eqb, get_or, sym, ap, ◌∙◌, rules, eq-eqb, ne_eqb}
-use Rattle.characters.specs.Nibble.{nibbleWord}
+use Rattle.characters.specs.Nibble.{nibble_word}
 use Rattle.underway.proofs.compare.is_byte.Statement.{statement}
 use Rattle.underway.proofs.compare.is_byte.Tie as tie
 
@@ -24,8 +24,8 @@ returns c =
     let a = c.before.before.before.before.args in
     let low = get_or a.line.now (2 * a.i + 1) 0 in
     let high = get_or a.line.now (2 * a.i + 2) 0 in
-    sym (ap (λ (t : Bool). t && eqb high (nibbleWord (a.byte / 16)))
-    (ne_eqb low (nibbleWord (a.byte % 16)) (λ same. c.if1.true (same ∙ sym c.before.word_of.ensures))))
+    sym (ap (λ (t : Bool). t && eqb high (nibble_word (a.byte / 16)))
+    (ne_eqb low (nibble_word (a.byte % 16)) (λ same. c.if1.true (same ∙ sym c.before.word_of.ensures))))
 
 mul-result : tie.Need-overflow-mul-result
 mul-result c = search rules
@@ -48,10 +48,10 @@ returns-2 c =
     let low = get_or a.line.now (2 * a.i + 1) 0 in
     let high = get_or a.line.now (2 * a.i + 2) 0 in
     ap (eqb high) c.word-of2.ensures
-    ∙ sym (ap (λ (t : Bool). t && eqb high (nibbleWord (a.byte / 16))) (eq-eqb low (nibbleWord (a.byte % 16)) (c.before.before.if1.false ∙ c.before.before.before.word_of.ensures)))
+    ∙ sym (ap (λ (t : Bool). t && eqb high (nibble_word (a.byte / 16))) (eq-eqb low (nibble_word (a.byte % 16)) (c.before.before.if1.false ∙ c.before.before.before.word_of.ensures)))
 
-pub is-byte-spec : {M : Type 1} → statement M
-is-byte-spec =
+pub is_byte_spec : {M : Type 1} → statement M
+is_byte_spec =
     tie.close
     (tie.spec
     mul-if1

@@ -2,13 +2,13 @@
 use Rattle.std.proofs.Common.{◌≡◌, ℕ, ◌+◌, ◌-◌, ◌*◌, ◌<◌, ◌≤◌, true, eqb, length, get_or, sym, ap, ◌∙◌, subst, ⊎_elim, not-suc-le-zero, eq-or-lt_of_le, arith}
 use borrow.Author.Tests.{not-true, not-false}
 use Rattle.characters.specs.Character.{stop}
-use Rattle.underway.specs.TakeUp.{byteStands}
-use Rattle.underway.proofs.Compared.{other_length, other-start, other_byte, all_but_last}
+use Rattle.underway.specs.TakeUp.{byte_stands}
+use Rattle.underway.proofs.Compared.{other_length, other_start, other_byte, all_but_last}
 use Rattle.underway.proofs.compare.is_line_of.Statement.{statement}
 use Rattle.underway.proofs.compare.is_line_of.Tie as tie
 
 abbrev invariant-loop : tie.invariant-loop
-invariant-loop line bytes i₀ i = (i ≤ length bytes) × ((j : ℕ) → j < i → byteStands line j (get_or bytes j 0) ≡ true)
+invariant-loop line bytes i₀ i = (i ≤ length bytes) × ((j : ℕ) → j < i → byte_stands line j (get_or bytes j 0) ≡ true)
 
 abbrev decreases-loop : tie.decreases-loop
 decreases-loop line bytes i₀ i = length bytes - i
@@ -29,7 +29,7 @@ shared-slice-read-if3 : tie.Need-shared-slice-read-if3 invariant-loop decreases-
 shared-slice-read-if3 c = omega arith
 
 returns-3 : tie.Need-returns-3 invariant-loop decreases-loop
-returns-3 c = let a = c.before.before.before.before.before.before.args in sym (other-start a.line.now a.bytes.now c.if3.true)
+returns-3 c = let a = c.before.before.before.before.before.before.args in sym (other_start a.line.now a.bytes.now c.if3.true)
 
 loop-holds : tie.Need-loop-init invariant-loop decreases-loop
 loop-holds c = (omega arith, λ j h. absurd (not-suc-le-zero h))
@@ -57,10 +57,10 @@ loop-again c =
     let line = a.line.now in
     let bytes = a.bytes.now in
     let at = c.before.before.before.before.loop in
-    let this : byteStands line at.i (get_or bytes at.i 0) ≡ true = sym c.before.is_byte_lem.ensures ∙ not-false c.before.is_byte_lem.result c.if4.false in (
+    let this : byte_stands line at.i (get_or bytes at.i 0) ≡ true = sym c.before.is_byte_lem.ensures ∙ not-false c.before.is_byte_lem.result c.if4.false in (
       omega arith,
       λ j h. let up : j ≤ at.i = omega arith in
-          ⊎_elim (λ (same : j ≡ at.i). subst (λ (i : ℕ). byteStands line i (get_or bytes i 0) ≡ true) (sym same) this) (λ lower. at.invariant.1 j lower) (eq-or-lt_of_le up),
+          ⊎_elim (λ (same : j ≡ at.i). subst (λ (i : ℕ). byte_stands line i (get_or bytes i 0) ≡ true) (sym same) this) (λ lower. at.invariant.1 j lower) (eq-or-lt_of_le up),
     )
 
 mul-result : tie.Need-overflow-mul-result invariant-loop decreases-loop
@@ -85,8 +85,8 @@ returns-5 c =
     ap (λ (k : ℕ). eqb (get_or line (2 * k + 1) 0) stop) all
     ∙ all_but_last line bytes (omega arith) c.before.before.before.if3.false (λ j h. at.invariant.1 j (omega arith))
 
-pub is-line-of-spec : {M : Type 1} → statement M
-is-line-of-spec =
+pub is_line_of_spec : {M : Type 1} → statement M
+is_line_of_spec =
     tie.close
     (tie.spec
     invariant-loop

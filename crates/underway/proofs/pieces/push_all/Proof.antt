@@ -1,7 +1,7 @@
 -- `push_all` meets its contract: the loop keeps the bytes so far laid behind what stood.
 use Rattle.std.proofs.Common.{◌≡◌, ℕ, ◌+◌, ◌-◌, ◌≤◌, List, [], ◌∷◌, length, get_or, take, sym, refl, ap, ◌∙◌, subst, add-one, arith, length-take-le, take_all, take-suc}
 use Rattle.underway.specs.Lay.{Laid}
-use Rattle.underway.proofs.Laying.{laid-nothing, laid_more}
+use Rattle.underway.proofs.Laying.{laid_nothing, laid_more}
 use Rattle.underway.proofs.pieces.push_all.Statement.{statement}
 use Rattle.underway.proofs.pieces.push_all.Tie as tie
 
@@ -12,7 +12,7 @@ abbrev decreases-loop : tie.decreases-loop
 decreases-loop bytes₀ at more end₀ i₀ bytes end i = length more - i
 
 loop-holds : tie.Need-loop-init invariant-loop decreases-loop
-loop-holds c = (omega arith, refl, laid-nothing _ _)
+loop-holds c = (omega arith, refl, laid_nothing _ _)
 
 shared-slice-read-push : tie.Need-shared-slice-read-push invariant-loop decreases-loop
 shared-slice-read-push c = omega arith
@@ -44,8 +44,8 @@ returns c =
     let at = c.before.loop in
     subst (λ (l : List ℕ). Laid c.before.before.before.before.args.bytes.now c.before.before.before.before.args.at l at.bytes at.end) (take_all at.i c.before.before.before.before.args.more.now c.loop-test.false) at.invariant.2
 
-pub push-all-spec : {M : Type 1} → statement M
-push-all-spec =
+pub push_all_spec : {M : Type 1} → statement M
+push_all_spec =
     tie.close
     (tie.spec
     invariant-loop

@@ -16,5 +16,5 @@ same_length c = search rules
 returns : tie.Need-returns
 returns c = laid_then (0xC2 ∷ []) (0xD3 ∷ []) c.before.before.before.before.before.before.push.ensures c.before.before.push2.ensures
 
-pub push-pair-spec : {M : Type 1} → statement M
-push-pair-spec = tie.close (tie.spec push-requires push-requires-2 same_length returns)
+pub push_pair_spec : {M : Type 1} → statement M
+push_pair_spec = tie.close (tie.spec push-requires push-requires-2 same_length returns)

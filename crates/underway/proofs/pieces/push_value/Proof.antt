@@ -24,6 +24,6 @@ returns c =
     let v = c.before.before.before.before.before.before.before.before.before.args.value in
     laid_then (v % 256 ∷ []) (v / 256 ∷ []) c.before.before.before.before.before.before.push.ensures c.before.before.push2.ensures
 
-pub push-value-spec : {M : Type 1} → statement M
-push-value-spec =
+pub push_value_spec : {M : Type 1} → statement M
+push_value_spec =
     tie.close (tie.spec cast-push push-requires cast-push-2 push-requires-2 same_length returns)

@@ -29,7 +29,7 @@ loop-again c = omega arith
 returns : tie.Need-returns invariant-loop decreases-loop
 returns c = search rules
 
-pub first-values-spec : {M : Type 1} → statement M
-first-values-spec =
+pub first_values_spec : {M : Type 1} → statement M
+first_values_spec =
     tie.close
     (tie.spec invariant-loop decreases-loop loop-holds next-value-requires add-k loop-less loop-again returns)

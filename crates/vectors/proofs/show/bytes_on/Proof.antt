@@ -35,8 +35,8 @@ loop-again c = omega arith
 returns : tie.Need-returns invariant-loop decreases-loop
 returns c = search rules
 
-pub bytes-on-spec : {M : Type 1} → statement M
-bytes-on-spec =
+pub bytes_on_spec : {M : Type 1} → statement M
+bytes_on_spec =
     tie.close
     (tie.spec
     invariant-loop

@@ -22,5 +22,5 @@ returns c = search rules
 returns-2 : tie.Need-returns-2
 returns-2 c = search rules
 
-pub float-pattern-spec : {M : Type 1} → statement M
-float-pattern-spec = tie.close (tie.spec float-to-bits-result returns returns-2)
+pub float_pattern_spec : {M : Type 1} → statement M
+float_pattern_spec = tie.close (tie.spec float-to-bits-result returns returns-2)
