@@ -1,4 +1,6 @@
 // The twelve cells of a measurement (document 01, "Cells"), each by its own register.
+#![tactic(auto)]
+
 ghost use Rattle.std.specs.Prelude.{◌≡◌};
 ghost use Rattle.cells.specs.Cell.{cells_of};
 

@@ -1,5 +1,7 @@
 // The C side (document 01, "The C side"): what the adapters' firmware calls, over numbers and byte slices. Each function hands its arguments to
 // a proved crate below and keeps that crate's contract; include/bmc.h declares them, and docs/C_INTERFACE.md has the packing.
+#![tactic(auto)]
+
 ghost use Rattle.std.specs.Prelude.{◌≡◌, ◌≤◌};
 ghost use Rattle.pec.specs.Pec.{pec_of};
 ghost use Rattle.questions.specs.Question.{asking};

@@ -1,5 +1,7 @@
 // Voltages for the C side (document 01, "Cells" and "The C side"): a cell's answer packed into one number, and its voltage, where one was
 // measured, into two lent numbers; and so for the twelve cells of one measurement.
+#![tactic(auto)]
+
 ghost use Rattle.std.specs.Prelude.{◌≡◌, ◌≤◌, length};
 ghost use Rattle.cells.specs.Cell.{cells_of};
 ghost use Rattle.c_cells.specs.CellBytes.{microvolts_or, volts_or, CellGiven, CellDone};

@@ -1,5 +1,7 @@
 // The command writer over bytes, for the C side (document 01, "The C side"): the command's words go out as two bytes each, low first, and the
 // answer is packed into one number. The bytes are laid straight into the lent ones, with no line of words in between.
+#![tactic(auto)]
+
 ghost use Rattle.std.specs.Prelude.{◌≡◌, ◌∷◌, [], ◌++◌, ◌+◌, ◌*◌, ◌/◌, ◌%◌, ◌≤◌, length};
 ghost use Rattle.characters.specs.Nibble.{nibble_word};
 ghost use Rattle.lines.specs.Line.{characters_of, line_of};

@@ -1,5 +1,7 @@
 // The second call over bytes, for the C side (document 01, "Commands and answers" and "The C side"): where the part of a line stands that
 // carries a device's register, packed into one number.
+#![tactic(auto)]
+
 ghost use Rattle.std.specs.Prelude.{◌≡◌, ◌≤◌};
 ghost use Rattle.c_parts.specs.PartBytes.{packed_start, part_in};
 

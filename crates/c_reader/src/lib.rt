@@ -1,5 +1,7 @@
 // The reader over bytes, for the C side (document 01, "The C side"): a word is two bytes, low first, in the line and in the output, and the
 // answer is packed into one number.
+#![tactic(auto)]
+
 ghost use Rattle.std.specs.Prelude.{◌≡◌, ◌/◌, min};
 ghost use Rattle.c_reader.specs.ReadBytes.{ReadBytesDone};
 

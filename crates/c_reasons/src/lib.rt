@@ -1,5 +1,7 @@
 // Why an answer is turned away, over bytes (document 02, M-101; document 01, "The C side"): an odd number of bytes is as no line at all, LENGTH
 // counts bytes, and for the C side the reason is packed into one number.
+#![tactic(auto)]
+
 ghost use Rattle.std.specs.Prelude.{◌≡◌};
 ghost use Rattle.reasons.specs.declared.Spot.TheVariants.{Whole};
 ghost use Rattle.c_reasons.specs.Explain.{counted_in, in_bytes, reason_on, how_placed, argument_of, place_of, is_one, right_of, sixteen, packed_because, packed_reason, packed_on};

@@ -1,5 +1,7 @@
 // The twin over bytes, for the C side (document 01, "The C side"): the register memory is 512 bytes a device, two bytes a word, low first; so is
 // the line. A device needs words of its own registers and of the line alone, so that a call takes little of the stack.
+#![tactic(auto)]
+
 ghost use Rattle.std.specs.Prelude.{◌≡◌, true, ◌+◌, ◌*◌, ◌%◌, ◌≤◌, length};
 ghost use Rattle.std.proofs.lemmas.List.Edits.{sets};
 ghost use Rattle.packing.specs.Words.{words_of, as_bytes};

@@ -1,4 +1,6 @@
 // Document 01's number of a cell's answer: of a refusal, rows 12 and 13, and of any answer.
+#![tactic(auto)]
+
 ghost use Rattle.std.specs.Prelude.{◌≡◌};
 ghost use Rattle.cells.specs.Cell.{cell_refusal_number, cell_number};
 

@@ -1,37 +1,39 @@
 // Cell codes turned into volts (document 01, "Cells"; data sheet 004, "Input Range").
+#![tactic(auto)]
+
 ghost use Rattle.std.specs.Prelude.{◌≡◌, ◌<◌, ◌≤◌, nat_abs};
 ghost use Rattle.cells.specs.Voltage.{steps_of, microvolts_of, volts_of, voltage_of};
 ghost use Rattle.cells.specs.Cell.{enabled, cell_of};
 
 // A register's sixteen bits, and a measurement's fourteen: not to be mistaken for one another.
-#[derive(Drop)]
+#[derive(Clone, Copy)]
 pub struct Register(pub u16);
 
-#[derive(Drop)]
+#[derive(Clone, Copy)]
 pub struct Code(pub u16);
 
 // Unipolar counts from 0 V, bipolar from -2.5 V.
-#[derive(Drop)]
+#[derive(Clone, Copy)]
 pub enum Range {
     Unipolar,
     Bipolar,
 }
 
 // Signed whole microvolts, and the same voltage in single precision.
-#[derive(Drop)]
+#[derive(Clone, Copy)]
 pub struct Voltage {
     pub microvolts: i32,
     pub volts: f32,
 }
 
 // Rows 12 and 13.
-#[derive(Drop)]
+#[derive(Clone, Copy)]
 pub enum CellRefusal {
     Channel,
     LowBits,
 }
 
-#[derive(Drop)]
+#[derive(Clone, Copy)]
 pub enum Cell {
     Measured(Voltage),
     NotMeasured,

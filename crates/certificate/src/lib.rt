@@ -1,5 +1,7 @@
 // The certificate of a job file (document 01, "Job file and certificate"; document 02, M-100): the reader is called on each entry's question and
 // words, its number kept, and the letters brought up to date; then all of it is printed. Of the reader only its contract is used.
+#![tactic(auto)]
+
 mod entries;
 
 ghost use Rattle.std.specs.Prelude.{◌≡◌, true, length};
@@ -15,7 +17,7 @@ use opening::open;
 use printing::{MOST_ENTRIES, Printed, print};
 
 // How many bytes the certificate has; or which row turned the call away.
-#[derive(Drop)]
+#[derive(Clone, Copy)]
 pub enum Certified {
     Bytes(usize),
     File,
@@ -26,7 +28,7 @@ pub enum Certified {
 pub const MOST_TEXT: usize = 82143;
 
 // How far the entries are told: where the next one stands, how many there were, and the letters.
-#[derive(Drop)]
+#[derive(Clone, Copy)]
 pub struct Told {
     pub at: usize,
     pub entries: usize,

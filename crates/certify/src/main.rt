@@ -1,5 +1,7 @@
 // The certificate program: a job file on standard input, its certificate on standard output, or `R 14` alone where it is no job file. An
 // input longer than a job file may be, and one that cannot be read to its end, are none.
+#![tactic(auto)]
+
 ghost use Rattle.std.specs.Prelude.{◌≡◌, length};
 ghost use Rattle.certificate.specs.Certificate.{most_text};
 

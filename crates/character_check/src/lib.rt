@@ -1,4 +1,6 @@
 // Whether a word is a character at all: row 4 of document 01's "Turned away", of one word.
+#![tactic(auto)]
+
 ghost use Rattle.std.specs.Prelude.{◌≡◌};
 ghost use Rattle.character_check.specs.Check.{is_character};
 ghost use Rattle.character_check.specs.Fault.{checked_of};
@@ -16,7 +18,7 @@ pub fn is_character(w: u16) -> bool
 
 // What is wrong with a word, in the order in which it is looked for: a bit above the stops is set, the start bit is 1, a stop bit is 0, parity is
 // odd.
-#[derive(Drop)]
+#[derive(Clone, Copy)]
 pub enum Fault {
     HighBits,
     Start,
@@ -25,7 +27,7 @@ pub enum Fault {
 }
 
 // A word is a character, or it has a fault: the first of those that it has.
-#[derive(Drop)]
+#[derive(Clone, Copy)]
 pub enum Checked {
     Sound,
     Faulty(Fault),

@@ -1,4 +1,6 @@
 // One character of the line, a word of 16 bits (document 01, "The line"; data sheet 004, Table 20).
+#![tactic(auto)]
+
 ghost use Rattle.std.specs.Prelude.{◌≡◌};
 ghost use Rattle.characters.specs.Nibble.{nibble_word, true_bits, is_nibble};
 

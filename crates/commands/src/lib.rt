@@ -1,5 +1,7 @@
 // The command writer: the command of a question, written into lent words (document 01, "Commands and answers" and rows 1 and 2 of "Turned
 // away").
+#![tactic(auto)]
+
 ghost use Rattle.std.specs.Prelude.{◌≡◌, ◌++◌, ◌+◌, ◌*◌, ◌≤◌, length};
 ghost use Rattle.std.proofs.lemmas.List.Edits.{sets};
 ghost use Rattle.lines.specs.Line.{characters_of};
@@ -13,7 +15,7 @@ use questions::question::{Question, is_good, shape_of};
 use writing::{Put, put_line};
 
 // How many words the command has, or which row turned the call away.
-#[derive(Drop)]
+#[derive(Clone, Copy)]
 pub enum Issued {
     Words(usize),
     Question,

@@ -1,4 +1,6 @@
 // The bytes of an answer held to its question: rows 7 to 11 of document 01's "Turned away", each over all bytes before the next.
+#![tactic(auto)]
+
 ghost use Rattle.std.specs.Prelude.{◌≡◌, take};
 ghost use Rattle.pec.specs.Pec.{pec_of};
 ghost use Rattle.questions.specs.Shape.{shape_of};

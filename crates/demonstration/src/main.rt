@@ -1,5 +1,7 @@
 // A bench of three devices rehearsed on the twin, with no module on the hook: the demonstration that a new user meets. Each question is
 // written out as a command, stepped through the chain, and read back; what is sent, what comes back and what the reader says are printed.
+#![tactic(auto)]
+
 mod bench;
 mod show;
 

@@ -1,5 +1,7 @@
 // Prints how many damages of a READALL answer pass unfound (document 01, "Distance, and where it ends"): of six line bits for each device
 // count up to 14, and of four from 15 on. That no fewer bits pass is proved in the promises. The gate compares what it prints with `stdout`.
+#![tactic(auto)]
+
 mod count;
 mod syndromes;
 

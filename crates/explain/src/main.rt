@@ -1,5 +1,7 @@
 // The explaining program: a question and a line on standard input, and on standard output whether the reader accepts the line, or why it turns it away.
 // The input is one byte, the question's size; the question's numbers; then the line's bytes. What is no such input is told by `R 14` alone.
+#![tactic(auto)]
+
 mod show;
 
 use c_reasons::explain_bytes;

@@ -1,4 +1,6 @@
 // The bytes of a command before its fill pairs (document 01, "Commands and answers"), for whoever writes a command, over words or over bytes.
+#![tactic(auto)]
+
 ghost use Rattle.std.specs.Prelude.{◌≡◌, ◌≤◌};
 ghost use Rattle.heads.specs.Head.{with_alive, head_of, write_head, read_head};
 
@@ -6,7 +8,7 @@ use pec::step;
 use questions::question::{HELLOALL, Question, WRITEDEVICE, shape_of};
 
 // The bytes of a command before its fill pairs, at the front of six places, and how many they are.
-#[derive(Drop)]
+#[derive(Clone, Copy)]
 pub struct Head {
     pub bytes: [u8; 6],
     pub count: usize,

@@ -1,4 +1,6 @@
 // What a line asks of a device, as far as its bytes and its length tell (document 01, "The twin").
+#![tactic(auto)]
+
 ghost use Rattle.std.specs.Prelude.{◌≡◌};
 ghost use Rattle.hearing.specs.Hear.{is_place, kind_heard, carried, alive_place, alive_told, plainly, heard};
 

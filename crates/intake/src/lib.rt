@@ -1,5 +1,7 @@
 // What the programs over job files share: standard input taken in whole, and bytes put out. What the operating system hands over is beyond
 // any contract: these say only that no more is counted than the lent memory holds.
+#![tactic(auto)]
+
 ghost use Rattle.std.specs.Prelude.{◌≡◌, ◌≤◌, length, replicate};
 
 // One byte more than a job file may have, so that a longer input shows.

@@ -1,4 +1,6 @@
 // Document 01's number of an answer about a job file: whether it is one, and what stands at a cursor.
+#![tactic(auto)]
+
 ghost use Rattle.std.specs.Prelude.{◌≡◌};
 ghost use Rattle.jobs.specs.Check.{opened_number, next_number};
 

@@ -1,5 +1,7 @@
 // Job files (document 01, "Job file and certificate"; document 02, M-100): what one is made of, and its entries one after the other, read where
 // they stand in the lent file with a cursor that goes by value.
+#![tactic(auto)]
+
 pub mod entry;
 
 ghost use Rattle.std.specs.Prelude.{◌≡◌};
@@ -10,7 +12,7 @@ use entry::{entry_known_at, is_good_entry};
 use questions::question::Question;
 
 // The file's version, how many devices the chain has, and whether the alive byte is on.
-#[derive(Drop)]
+#[derive(Clone, Copy)]
 pub struct Header {
     pub version: u16,
     pub n: u8,
@@ -18,13 +20,13 @@ pub struct Header {
 }
 
 // Where the next entry stands.
-#[derive(Drop)]
+#[derive(Clone, Copy)]
 pub struct Cursor {
     pub at: usize,
 }
 
 // An entry where it stands: its question, the bits that a write is expected to show, and the place and the number of its answer's words.
-#[derive(Drop)]
+#[derive(Clone, Copy)]
 pub struct EntryAt {
     pub question: Question,
     pub mask: u16,
@@ -33,14 +35,14 @@ pub struct EntryAt {
 }
 
 // A job file, with its header; or row 14, FILE.
-#[derive(Drop)]
+#[derive(Clone, Copy)]
 pub enum Opened {
     Job(Header),
     File,
 }
 
 // An entry, and where the next one stands; no more entries; or what is no entry.
-#[derive(Drop)]
+#[derive(Clone, Copy)]
 pub enum Next {
     Entry(EntryAt, Cursor),
     End,

@@ -1,4 +1,6 @@
 // Rows 1 to 6 of document 01's "Turned away", each over the whole line before the next: what is asked of an answer before its bytes are looked at.
+#![tactic(auto)]
+
 ghost use Rattle.std.specs.Prelude.{◌≡◌};
 ghost use Rattle.judging.specs.Judge.{screen_of};
 ghost use Rattle.judging.specs.Clean.{WordsSay, is_clean};

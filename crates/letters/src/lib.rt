@@ -1,6 +1,8 @@
 // The letters of a certificate (document 01, "Job file and certificate"; document 02, M-100): for each device that the last good write covers,
 // whether an accepted read after it showed the value written, in the bits of the write's mask. One step an entry, on a small standing state
 // that goes in and comes back by value.
+#![tactic(auto)]
+
 ghost use Rattle.std.specs.Prelude.{◌≡◌, max};
 ghost use Rattle.letters.specs.Letters.{is_good_write, value_for, verdict, unheard, decided, hear_of, begun};
 ghost use Rattle.letters.specs.Span.{span_of};
@@ -18,7 +20,7 @@ pub const OTHER: u8 = 0x4F;
 pub const UNHEARD: u8 = 0x55;
 
 // The last good write with its mask, or where there was none yet a question that covers no device; and a letter for each of 32 devices.
-#[derive(Drop)]
+#[derive(Clone, Copy)]
 pub struct Standing {
     pub write: Question,
     pub mask: u16,
@@ -119,7 +121,7 @@ fn decide(standing: Standing, q: Question, values: &[u16]) -> Standing
 }
 
 // The devices that a question covers stand together: the first of them, and the one behind the last.
-#[derive(Drop)]
+#[derive(Clone, Copy)]
 struct Span {
     first: usize,
     end: usize,

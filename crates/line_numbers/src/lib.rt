@@ -1,4 +1,6 @@
 // Document 01's number of an answer where a line was to be written: by the line writer, and by the command writer above it.
+#![tactic(auto)]
+
 ghost use Rattle.std.specs.Prelude.{◌≡◌};
 ghost use Rattle.writing.specs.PutLine.{put_number};
 ghost use Rattle.commands.specs.Command.{issued_number};

@@ -1,5 +1,7 @@
 // One entry of a job file heard (document 01, "Job file and certificate"; document 02, M-100): the reader is asked of its question and words, and
 // the letters are brought up to date. Of the reader only its contract is used.
+#![tactic(auto)]
+
 ghost use Rattle.std.specs.Prelude.{◌≡◌, ◌+◌, ◌*◌, ◌≤◌, length, take, drop};
 ghost use Rattle.packing.specs.Words.{words_of};
 ghost use Rattle.letters.specs.Meaning.{is_values};
@@ -14,7 +16,7 @@ use readings::{Reading, number_of, values_taken};
 
 // What an entry comes to: document 01's number of the reading, the letters after it, what was asked, whether values were accepted, and how
 // many bytes the entry has.
-#[derive(Drop)]
+#[derive(Clone, Copy)]
 pub struct Listened {
     pub number: u8,
     pub standing: Standing,

@@ -1,5 +1,7 @@
 // The mask of an entry of a job file (document 02, M-100): the bits that a write is expected to show. Which kinds are writes, how an entry's mask
 // reads in each version of the file, and which masks keep the rules.
+#![tactic(auto)]
+
 ghost use Rattle.std.specs.Prelude.{◌≡◌};
 ghost use Rattle.masks.specs.Masks.{is_write, mask_of, good_mask};
 

@@ -1,5 +1,7 @@
 // A job file looked through as a whole (document 01, "Job file and certificate"; document 02, M-100): its length, the mark, a header that keeps its
 // rules, the version among them, and nothing but good entries behind it.
+#![tactic(auto)]
+
 ghost use Rattle.std.specs.Prelude.{◌≡◌, ◌≤◌, length, drop};
 ghost use Rattle.jobs.specs.Format.{head_size};
 ghost use Rattle.jobs.specs.Rules.{good_header};

@@ -1,4 +1,6 @@
 // Words as bytes, two bytes a word, low first (document 01, "Job file and certificate" and "The C side").
+#![tactic(auto)]
+
 ghost use Rattle.std.specs.Prelude.{◌≡◌, ◌+◌, ◌*◌, ◌/◌, ◌<◌, length, set, take};
 ghost use Rattle.std.proofs.lemmas.List.Edits.{sets};
 ghost use Rattle.packing.specs.Words.{word_at, words_of, as_bytes, with_word, LineTaken};

@@ -1,4 +1,6 @@
 // The second call: the part of an accepted line that carries a named device's register (document 01, below "Commands and answers").
+#![tactic(auto)]
+
 ghost use Rattle.std.specs.Prelude.{◌≡◌};
 ghost use Rattle.parts.specs.Part.{order_of, values_found, start_of, part_of};
 

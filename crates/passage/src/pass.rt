@@ -8,7 +8,7 @@ use slices::word_or_zero;
 use underway::take_up;
 
 // What becomes of the device's registers.
-#[derive(Drop)]
+#[derive(Clone, Copy)]
 pub enum Change {
     Nothing,
     Store(u8, u16),

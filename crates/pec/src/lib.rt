@@ -1,4 +1,6 @@
 // The packet error check, PEC, of document 01 and data sheet 004: one byte, and a list of bytes.
+#![tactic(auto)]
+
 mod moved;
 mod table;
 

@@ -1,6 +1,8 @@
 // A certificate as text (document 01, "Job file and certificate"; document 02, M-100): `BMC`, the file's version and n, a line `E i r` for each
 // entry, a line `D a v` for each device that the write covers. The text is laid byte by byte; a byte beyond the lent memory is counted and not
 // written, so that the same code tells the length before anything is written.
+#![tactic(auto)]
+
 mod figures;
 mod text_lines;
 
@@ -12,7 +14,7 @@ use letters::Standing;
 use text_lines::{put_devices, put_entries, put_head};
 
 // How many bytes the text has; or why nothing was written: more entries than a job file can have, or too little room.
-#[derive(Drop)]
+#[derive(Clone, Copy)]
 pub enum Printed {
     Bytes(usize),
     Many,

@@ -14,7 +14,7 @@ pub const READALL: u8 = 3;
 pub const READDEVICE: u8 = 4;
 
 // The kind, how many devices the chain has, whether the alive byte is on (1) or off (0), and what the kind uses of the rest.
-#[derive(Drop)]
+#[derive(Clone, Copy)]
 pub struct Question {
     pub kind: u8,
     pub n: u8,
@@ -27,7 +27,7 @@ pub struct Question {
 
 // What a kind settles of command and answer: the command byte, what is added to the alive byte, how many values the answer carries, how many
 // bytes of the answer stand before its PEC, and how many words command and answer have.
-#[derive(Drop)]
+#[derive(Clone, Copy)]
 pub struct Shape {
     pub first: u16,
     pub acting: u8,

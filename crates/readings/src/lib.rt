@@ -1,10 +1,12 @@
 // What the reader says, in the words of document 01's table "Turned away".
+#![tactic(auto)]
+
 ghost use Rattle.std.specs.Prelude.{◌≡◌};
 ghost use Rattle.readings.specs.Reading.{refusal_number, refusal_place, refusal_byte, number_of, place_of, byte_of, count_of, values_taken};
 ghost use Rattle.readings.specs.Packed.{packed_reading};
 
 // Rows 1 to 11, in their order; a place or a byte where the row has one.
-#[derive(Drop)]
+#[derive(Clone, Copy)]
 pub enum Refusal {
     Question,
     Room,
@@ -20,7 +22,7 @@ pub enum Refusal {
 }
 
 // HELLOALL's count on the line; a write's echo; how many values were handed out; or why the line was turned away.
-#[derive(Drop)]
+#[derive(Clone, Copy)]
 pub enum Reading {
     Counted(u8),
     Written,
@@ -29,7 +31,7 @@ pub enum Reading {
 }
 
 // What a row, or some rows in their order, say of an answer: that it passes, or why it is turned away.
-#[derive(Drop)]
+#[derive(Clone, Copy)]
 pub enum Screened {
     Passed,
     Faulty(Refusal),

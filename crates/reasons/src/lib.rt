@@ -1,5 +1,7 @@
 // Why an answer is turned away (document 02, M-101): the reader's refusal, where it was found, what stood there, and the one thing that would have
 // passed there where there is but one. The reader is asked as it stands; for the rows that carry no place the line is looked at once more.
+#![tactic(auto)]
+
 ghost use Rattle.std.specs.Prelude.{◌≡◌};
 ghost use Rattle.ground.specs.Sweep.{tabulated};
 ghost use Rattle.pec.specs.Pec.{pec_of};
@@ -17,7 +19,7 @@ use slices::word_or_zero;
 use std::num::wrapping_add_u8;
 
 // A field of a question that row 1 looks at, in that row's order.
-#[derive(Drop)]
+#[derive(Clone, Copy)]
 pub enum Field {
     Kind,
     Alive,
@@ -26,7 +28,7 @@ pub enum Field {
 }
 
 // Where a check looks: at a field of what was asked, at the line as a whole, at a word of it, or at a byte, which is the words 1 + 2i and 2 + 2i.
-#[derive(Drop)]
+#[derive(Clone, Copy)]
 pub enum Spot {
     Asked(Field),
     Whole,
@@ -35,13 +37,13 @@ pub enum Spot {
 }
 
 // What would have passed a check there: one thing alone, or several.
-#[derive(Drop)]
+#[derive(Clone, Copy)]
 pub enum Right {
     One(usize),
     Several,
 }
 
-#[derive(Drop)]
+#[derive(Clone, Copy)]
 pub struct Because {
     pub why: Refusal,
     pub spot: Spot,
@@ -49,7 +51,7 @@ pub struct Because {
     pub right: Right,
 }
 
-#[derive(Drop)]
+#[derive(Clone, Copy)]
 pub enum Reason {
     Accepted,
     TurnedAway(Because),

@@ -1,10 +1,12 @@
 // The register memory of a chain of devices, lent by the caller: device k's register r is word 256k + r (document 01, "The twin" and row 15).
+#![tactic(auto)]
+
 ghost use Rattle.std.specs.Prelude.{◌≡◌, ◌%◌, length};
 ghost use Rattle.ground.specs.Sweep.{tabulated};
 ghost use Rattle.registers.specs.Memory.{is_chain, power_on_figure, fresh, PoweredOn};
 
 // The memory was filled, or row 15, TWIN.
-#[derive(Drop)]
+#[derive(Clone, Copy)]
 pub enum Powered {
     On,
     Twin,

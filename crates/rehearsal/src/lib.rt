@@ -1,5 +1,7 @@
 // A job rehearsed with no module on the hook: each good question's command goes through the twin's chain, from power-on on, and the job file
 // is given with the answers that came back. What answers the file had are left aside.
+#![tactic(auto)]
+
 mod answer;
 mod count;
 mod entry;
@@ -13,7 +15,7 @@ use jobs::Opened;
 use opening::open;
 
 // How many bytes the answered file has; or which row turned the call away.
-#[derive(Drop)]
+#[derive(Clone, Copy)]
 pub enum Rehearsed {
     Bytes(usize),
     File,
@@ -21,7 +23,7 @@ pub enum Rehearsed {
 }
 
 // Where the next entry stands in the file, and where it goes.
-#[derive(Drop)]
+#[derive(Clone, Copy)]
 pub struct Places {
     pub at: usize,
     pub to: usize,

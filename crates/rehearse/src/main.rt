@@ -1,6 +1,8 @@
 // The rehearsal program: a job file on standard input, and on standard output the same job with the answers that the twin's chain, switched on
 // first, gives, so that `rehearse < plan.bmc | certify` shows a certificate with no module on the hook. What is no job file, or would be too long
 // with its answers, is turned away with `R 14`, which the certificate program turns away in its turn.
+#![tactic(auto)]
+
 use intake::{job_memory, put_out, take_in};
 use rehearsal::{Rehearsed, rehearse};
 

@@ -1,4 +1,6 @@
 // A line's words looked through: the first bad place, and the framing (document 01, rows 4 to 6 of "Turned away").
+#![tactic(auto)]
+
 ghost use Rattle.std.specs.Prelude.{◌≡◌, ◌≤◌, ◌-◌, eqb, length};
 ghost use Rattle.characters.specs.Nibble.{is_nibble};
 ghost use Rattle.scanning.specs.Place.{first_no_character, first_no_nibble, is_nowhere, all_nibbles};
@@ -10,14 +12,14 @@ use character_check::is_character;
 use characters::{PREAMBLE, STOP, is_nibble};
 
 // A place of a line, counted in words from 0.
-#[derive(Drop)]
+#[derive(Clone, Copy)]
 pub enum Place {
     At(usize),
     Nowhere,
 }
 
 // The row that a word is held to.
-#[derive(Drop)]
+#[derive(Clone, Copy)]
 enum Row {
     Character,
     Manchester,

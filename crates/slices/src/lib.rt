@@ -1,4 +1,6 @@
 // What many crates ask of lent memory: an element, or 0 where there is none, and the lesser of two counts.
+#![tactic(auto)]
+
 ghost use Rattle.std.specs.Prelude.{◌≡◌, min, get_or};
 
 // The word at a place, 0 past the end.

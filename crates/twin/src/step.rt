@@ -7,7 +7,7 @@ use passage::pass::{Change, pass};
 use registers::is_chain;
 
 // The line was handed on, or which row turned the call away.
-#[derive(Drop)]
+#[derive(Clone, Copy)]
 pub enum Stepped {
     Handed,
     Twin,

@@ -1,4 +1,6 @@
 // Document 01's number of the twin's answers: power-on, and devices stepped.
+#![tactic(auto)]
+
 ghost use Rattle.std.specs.Prelude.{◌≡◌};
 ghost use Rattle.registers.specs.Memory.{powered_number};
 ghost use Rattle.twin.specs.Step.{stepped_number};

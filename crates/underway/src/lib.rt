@@ -1,4 +1,6 @@
 // A command on its way along the chain (document 01, "The twin"): held to what the devices before would have left, and handed on.
+#![tactic(auto)]
+
 mod command;
 mod compare;
 mod pieces;

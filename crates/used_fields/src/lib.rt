@@ -1,11 +1,13 @@
 // The fields that each kind of question uses; the others are zero (document 01, "Job file and certificate").
+#![tactic(auto)]
+
 ghost use Rattle.std.specs.Prelude.{◌≡◌, ◌||◌, eqb};
 ghost use Rattle.used_fields.specs.Used.{uses_of, unused_are_zero};
 
 use questions::question::{HELLOALL, Question, READALL, WRITEALL, WRITEDEVICE};
 
 // Which fields a question uses.
-#[derive(Drop)]
+#[derive(Clone, Copy)]
 pub struct Uses {
     pub register: bool,
     pub value: bool,

@@ -1,4 +1,6 @@
 // Prints the worked numbers of document 01, as the proved crates work them out; the gate compares what it prints with `stdout`.
+#![tactic(auto)]
+
 mod heard;
 mod longest;
 mod show;

@@ -1,11 +1,13 @@
 // A line written from bytes into lent words (document 01, "The line").
+#![tactic(auto)]
+
 ghost use Rattle.std.specs.Prelude.{◌≡◌, ◌+◌, ◌*◌, ◌<◌, length};
 ghost use Rattle.writing.specs.PutLine.{LinePut, with_byte};
 
 use characters::{PREAMBLE, STOP, word_of};
 
 // How many words were put, or why none.
-#[derive(Drop)]
+#[derive(Clone, Copy)]
 pub enum Put {
     Words(usize),
     NoRoom,

@@ -1,4 +1,6 @@
 // Document 01's number of an answer where a text or a file was to be written: a certificate printed, a job file certified, one rehearsed.
+#![tactic(auto)]
+
 ghost use Rattle.std.specs.Prelude.{◌≡◌};
 ghost use Rattle.printing.specs.Print.{printed_number};
 ghost use Rattle.certificate.specs.Certificate.{certified_number};
