@@ -9,8 +9,7 @@ use borrow.Author.Tests.{eqb-true}
 use Rattle.ground.specs.Sweep.{every}
 use Rattle.ground.proofs.Sweep.{swept}
 use borrow.Author.Rules.{rules}
-use Rattle.lines.proofs.read.joined.Statement.{statement}
-use Rattle.lines.proofs.read.joined.Tie as tie
+use Rattle.lines.proofs.read.joined.Goals as goal
 
 -- what the code makes of the two
 abbrev eight : ℕ → ℕ → ℕ
@@ -23,21 +22,12 @@ all_join : every (λ low. every (joins low) 16) 16 ≡ true
 unfolding joins
 all_join = refl
 
-mul-both : tie.Need-overflow-mul-both
-mul-both c = search rules
+pub overflow_cast-result : goal.overflow_cast-result
+overflow_cast-result c = search (rules, Fits-and_r)
 
-add-both : tie.Need-overflow-add-both
-add-both c = search rules
-
-cast-result : tie.Need-overflow-cast-result
-cast-result c = search (rules, Fits-and_r)
-
-returns : tie.Need-returns
+pub returns : goal.returns
 unfolding joins
 returns c =
     let low = c.args.low in
     let high = c.args.high in
     eqb-true (eight low high) (low + 16 * high) (swept (joins low) 16 (swept (λ low. every (joins low) 16) 16 all_join low c.requires.0) high c.requires.1)
-
-pub joined_spec : {M : Type 1} → statement M
-joined_spec = tie.close (tie.spec mul-both add-both cast-result returns)

@@ -2,12 +2,8 @@
 use mathlib.Core.Path.{refl}
 use Rattle.remainder.specs.Register.{times}
 use Rattle.pec.specs.Pec.{bit_step}
-use Rattle.pec.proofs.remainders.Statement.{statement}
-use Rattle.pec.proofs.remainders.Tie as tie
+use Rattle.pec.proofs.remainders.Goals as goal
 
-returns : tie.Need-returns
+pub returns : goal.returns
 unfolding times bit_step
 returns c = refl
-
-pub remainders_spec : {M : Type 1} → statement M
-remainders_spec = tie.close (tie.spec returns)
