@@ -1,7 +1,7 @@
 -- `check` meets its contract: each `return` is the test that those before it lead to.
 use mathlib.Core.Path.{◌≡◌, sym, ap, ◌∙◌}
 use mathlib.Core.Bool.{Bool, true, false}
-use Prim.Native.Nat.{◌%◌, ◌/◌, ◌^◌}
+use Prim.Native.Nat.{ℕ, ◌%◌, ◌/◌, ◌^◌}
 use native.Mathlib.Omega.{arith}
 use lib.Count.{ones}
 use lib.Dec.{eqb}
@@ -37,15 +37,17 @@ returns-then-w-ne3 c =
     simp (clear, start, given)
 
 -- what the tests before it leave to the last
-to_the_last : (c : tie.Else3) (even : Bool) → eqb (ones c.args.w % 2) 0 ≡ even
-    → unless even Parity Sound ≡ checked_of c.args.w
-to_the_last c even is =
-    ap (λ (t : Bool). unless t Parity Sound) (sym is)
-    ∙ left_to_parity c.args.w
-    (omega (arith, c.if-w-ne0.false)) (omega (arith, c.if-w-ne0-2.false)) (omega (arith, c.if-w-ne3.false))
+to_the_last : (w : ℕ) (even : Bool) → w / 4096 ≡ 0 → w % 2 ≡ 0 → w / 1024 % 4 ≡ 3 → eqb (ones w % 2) 0 ≡ even
+    → unless even Parity Sound ≡ checked_of w
+to_the_last w even clear start both is =
+    ap (λ (t : Bool). unless t Parity Sound) (sym is) ∙ left_to_parity w (omega (arith, clear)) (omega (arith, start)) both
 
 pub returns-then-w-ne0-3 : goal.returns-then-w-ne0-3
-returns-then-w-ne0-3 c = to_the_last c.before false (ne_eqb (ones _ % 2) 0 (λ even. c.if-w-ne0-3.true (omega (arith, even))))
+returns-then-w-ne0-3 c =
+    let w = c.args.w in
+    to_the_last w false (omega arith) (omega arith) (omega arith) (ne_eqb (ones w % 2) 0 (λ even. c.if-w-ne0-3.true (omega (arith, even))))
 
 pub returns : goal.returns
-returns c = to_the_last c.before true (eq-eqb (ones _ % 2) 0 (omega (arith, c.if-w-ne0-3.false)))
+returns c =
+    let w = c.args.w in
+    to_the_last w true (omega arith) (omega arith) (omega arith) (eq-eqb (ones w % 2) 0 (omega (arith, c.if-w-ne0-3.false)))
