@@ -2,8 +2,8 @@
 use Rattle.std.proofs.Common.{◌≡◌, Bool, true, false, not, sym, ◌∙◌}
 use borrow.Author.Tests.{not-true, not-false}
 
-pub was_so : {answer test : Bool} → answer ≡ test → not answer ≡ false → test ≡ true
-was_so {answer} same on = sym same ∙ not-false answer on
+pub was_so : {answer test : Bool} → answer ≡ test → answer ≡ true → test ≡ true
+was_so same on = sym same ∙ on
 
-pub was_not : {answer test : Bool} → answer ≡ test → not answer ≡ true → test ≡ false
-was_not {answer} same back = sym same ∙ not-true answer back
+pub was_not : {answer test : Bool} → answer ≡ test → answer ≡ false → test ≡ false
+was_not same back = sym same ∙ back

@@ -33,9 +33,9 @@ loop-i-init c = (omega arith, refl, refl)
 pub loop-i-preserved : goal.loop-i-preserved
 loop-i-preserved c =
     let at = c.loop-i in
-    let twelve : length c.args.t3 ≡ 12 = omega (arith, c.well_formed.1.1.0) in (
+    let twelve : length c.args.registers ≡ 12 = omega (arith, c.well_formed.1.1.0) in (
       omega arith,
-      next c.args.range c.args.mask c.args.t3 at.cells at.i c.read_cell.result _ (omega arith) (omega arith)
+      next c.args.range c.args.mask c.args.registers at.cells at.i c.read_cell.result _ (omega arith) (omega arith)
           c.read_cell.ensures
           ∙ at.invariant.1,
       length-set at.cells at.i c.read_cell.result ∙ at.invariant.2,
@@ -44,6 +44,6 @@ loop-i-preserved c =
 pub returns : goal.returns
 returns c =
     let at = c.loop-i in
-    let twelve : length c.args.t3 ≡ 12 = omega (arith, c.well_formed.1.1.0) in
-    let all : at.i ≡ length c.args.t3 = omega arith in
-    all_read c.args.range c.args.mask c.args.t3 at.cells at.i all (omega arith) ∙ at.invariant.1
+    let twelve : length c.args.registers ≡ 12 = omega (arith, c.well_formed.1.1.0) in
+    let all : at.i ≡ length c.args.registers = omega arith in
+    all_read c.args.range c.args.mask c.args.registers at.cells at.i all (omega arith) ∙ at.invariant.1

@@ -4,4 +4,4 @@ use Rattle.commands.specs.Command.{issued_as}
 use Rattle.commands.proofs.as_issued.Goals as goal
 
 pub returns-in-Words : goal.returns-in-Words
-returns-in-Words c = sym (ap issued_as c.put-1.given.1)
+returns-in-Words c = sym (ap issued_as c.in-Words.is)

@@ -28,6 +28,6 @@ pub returns : goal.returns
 returns c =
     let a = c.args in
     let l = a.bytes.now in
-    ap₂ eqb c.byte_or_zero.ensures c.wrapping_add_u8.ensures
+    ap₂ eqb c.byte_or_zero.ensures c.wrapping_add_u8.ensures.value
     ∙ ap₂ (λ (k acting : ℕ). eqb (byte_in l (k + 1)) ((a.q.seed + acting) % 256)) c.requires.0 c.requires.1
     ∙ some_alive a.q l (positive a.q.kind c.if-q-eq-HELLOALL.false) c.if-q-ne1.false

@@ -5,8 +5,8 @@ use Rattle.contents.proofs.pec_before.Goals as goal
 
 pub slice_bounds-pec-end : goal.slice_bounds-pec-end
 slice_bounds-pec-end c =
-    let a = c.before.before.before.args in
-    sym (length-take-le a.covered a.bytes.now (omega (arith, c.if1.true)))
+    let a = c.args in
+    sym (length-take-le a.covered a.bytes.now (omega (arith, c.if-covered-bytes.true)))
 
 pub returns : goal.returns
 returns c =

@@ -25,7 +25,7 @@ pub loop-at-init : goal.loop-at-init
 loop-at-init c =
     let a = c.args in
     let write = a.standing.write in
-    let asked = c.Span-of in
+    let asked = c.span_of-asked in
     let written = c.span_of-written in
     let starts : c.most-at.result ≡ from write a.q =
     c.most-at.ensures ∙ ap₂ (λ (s t : Span). max s.first t.first) asked.ensures written.ensures in (

@@ -9,12 +9,12 @@ slice_bounds-pec-end-2 c = simp length-take (omega arith)
 
 pub returns-then-q-ne1 : goal.returns-then-q-ne1
 returns-then-q-ne1 c =
-    let a = c.before.before.before.before.before.before.before.before.before.args in
+    let a = c.args in
     sealed_laid a.q a.added a.at c.pec-check.result [] a.bytes.now (omega arith) c.pec-check.ensures (alive_absent a.q a.added c.if-q-ne1.true) c.push-end.ensures
 
 pub returns : goal.returns
 returns c =
-    let a = c.before.before.before.before.before.before.before.before.before.before.before.before.before.before.args in
+    let a = c.args in
     let alive = c.counted_up.result in
     sealed_laid a.q a.added a.at c.pec-check.result (alive ∷ []) a.bytes.now (omega arith) c.pec-check.ensures
     (alive_present a.q a.added c.if-q-ne1.false ∙ ap (λ (x : ℕ). x ∷ []) (sym c.counted_up.ensures))
