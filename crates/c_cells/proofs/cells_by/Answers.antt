@@ -38,9 +38,8 @@ returns-then-registers-ne24 c =
 
 pub returns : goal.returns
 returns c =
-    let read = c.before.before.before.before.before.before.before.before.before in
     let a = c.args in
-    let cells = read.read_cells.ensures ∙ ap (cells_of a.range a.enabled) read.before.registers-in.ensures in
+    let cells = c.read_cells-cells.ensures ∙ ap (cells_of a.range a.enabled) c.registers_in.ensures in
     all_given (room_number a.registers.now a.microvolts.now a.volts.now a.answers.now) (cells_of a.range a.enabled (registers_of a.registers.now))
     a.microvolts.now a.volts.now a.answers.now _ _ _
     (room_and_length a.registers.now a.microvolts.now a.volts.now a.answers.now c.if-microvolts-lt12.false c.if-volts-lt12.false c.if-answers-lt12.false c.if-registers-ne24.false)

@@ -9,7 +9,7 @@ use Rattle.c_cells.proofs.give.Goals as goal
 pub returns-in-Measured : goal.returns-in-Measured
 returns-in-Measured c =
     let a = c.args in
-    let is = c.answer-1.given.1 in
+    let is = c.in-Measured.is in
     record {
       says = ap packed_cell (sym is);
       microvolts = to_z-of_z (sfits_of c.struct_told-1.given.0.1) ∙ ap (λ (answer : Cell). microvolts_or answer a.microvolts.now) (sym is);

@@ -7,7 +7,7 @@ use Rattle.judging.proofs.screen_in_order.Goals as goal
 pub returns-in-At : goal.returns-in-At
 unfolding screen_rows
 returns-in-At c q room =
-    let given = sym c.first_no_character-bad.ensures ∙ c.bad-1.given.1 in
+    let given = sym c.first_no_character-bad.ensures ∙ c.in-At.is in
     simp given
 
 pub returns-then-not-is_framed : goal.returns-then-not-is_framed
@@ -22,7 +22,7 @@ unfolding screen_rows
 returns-in-At-odd c q room =
     let characters = sym c.first_no_character-bad.ensures ∙ c.in_default.is in
     let frame = was_so c.is_framed.ensures c.if-not-is_framed.false in
-    let given = sym c.first_no_nibble-odd.ensures ∙ c.odd-1.given.1 in
+    let given = sym c.first_no_nibble-odd.ensures ∙ c.in-At-odd.is in
     simp (characters, frame, given)
 
 pub returns : goal.returns

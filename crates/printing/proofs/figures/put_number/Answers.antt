@@ -20,7 +20,5 @@ put-requires c = let v = c.args.v in omega (arith, figure_most 10000 v, figure_m
 pub returns : goal.returns
 unfolding decimal
 returns c =
-    let third = c.before.before.before.before.before.before.before.before.before.before in
-    let second = third.before.before.before.before in
-    laid_then second.before.before.before.before.put-figure.ensures
-    (laid_then second.put-figure2.ensures (laid_then third.put-figure3.ensures (laid_then c.put_figure-d.ensures c.put.ensures)))
+    laid_then c.put_figure-a.ensures
+    (laid_then c.put_figure-b.ensures (laid_then c.put_figure-c.ensures (laid_then c.put_figure-d.ensures c.put.ensures)))

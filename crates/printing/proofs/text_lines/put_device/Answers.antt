@@ -17,7 +17,5 @@ put-requires c = omega (arith, decimal_most c.args.device)
 pub returns : goal.returns
 unfolding device_line
 returns c =
-    let space = c.before.before.before.before.before.before.before.before.before.before in
-    let number = space.before.before.before.before in
-    laid_then number.before.before.before.before.put_all_lem.ensures
-    (laid_then number.put-number.ensures (laid_then space.put.ensures (laid_then c.put-end.ensures c.put.ensures)))
+    laid_then c.put_all-mark.ensures
+    (laid_then c.put_number-space.ensures (laid_then c.put-own.ensures (laid_then c.put-end.ensures c.put.ensures)))

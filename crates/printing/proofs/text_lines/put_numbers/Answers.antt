@@ -15,7 +15,5 @@ put-requires c = let a = c.args in omega (arith, decimal_most a.a, decimal_most 
 
 pub returns : goal.returns
 returns c =
-    let space = c.before.before.before.before.before.before.before.before.before.before in
-    let first = space.before.before.before.before in
-    laid_then first.before.before.before.before.put_all_lem.ensures
-    (laid_then first.put-number.ensures (laid_then space.put.ensures (laid_then c.put_number-end.ensures c.put.ensures)))
+    laid_then c.put_all-first.ensures
+    (laid_then c.put_number-space.ensures (laid_then c.put-second.ensures (laid_then c.put_number-end.ensures c.put.ensures)))

@@ -6,4 +6,4 @@ use Rattle.twin.proofs.step.keep.Goals as goal
 pub returns-in-Store : goal.returns-in-Store
 returns-in-Store c =
     let a = c.args in
-    ap (with_change a.memory.now a.device) (sym c.change-1.given.1)
+    ap (with_change a.memory.now a.device) (sym c.in-Store.is)

@@ -1,0 +1,31 @@
+-- `listen` meets its contract: an entry is taken out only where a good one stands, and it is heard.
+use mathlib.Core.Path.{ap, ◌∙◌}
+use native.Mathlib.Omega.{arith}
+use Rattle.jobs.specs.declared.EntryAt.{EntryAt}
+use Rattle.jobs.proofs.Placed.{entry_stands, placed, entry_words, entry_within}
+use Rattle.listening.proofs.Listening.{heard_there}
+use Rattle.listening.proofs.listen.Goals as goal
+
+pub hear_entry-requires : goal.hear_entry-requires
+hear_entry-requires c =
+    let a = c.args in
+    let front = a.front.now in
+    let e = c.next-1.given.0.0 in
+    let cursor = c.next-1.given.0.1.0 in
+    let says = c.next_entry-next.ensures in
+    let is = entry_stands a.header front 0 c.next_entry-next.result e cursor says c.in-Entry.is in
+    let there = placed a.header front 0 is c.next_entry-next.result e cursor says c.in-Entry.is in
+    let words = ap (λ (x : EntryAt). x.words) there.entry in
+    let start = ap (λ (x : EntryAt). x.start) there.entry in
+    (omega (arith, words, entry_words a.header front 0 is), omega (arith, words, start, entry_within a.header front 0 is))
+
+pub returns : goal.returns
+returns c =
+    let a = c.args in
+    let front = a.front.now in
+    let e = c.next-1.given.0.0 in
+    let cursor = c.next-1.given.0.1.0 in
+    let says = c.next_entry-next.ensures in
+    let is = entry_stands a.header front 0 c.next_entry-next.result e cursor says c.in-Entry.is in
+    let there = placed a.header front 0 is c.next_entry-next.result e cursor says c.in-Entry.is in
+    c.hear_entry.ensures ∙ heard_there a.header front a.standing is e cursor there
