@@ -4,8 +4,6 @@ use mathlib.Core.Bool.{Bool, true, false, cond}
 use mathlib.Core.List.{List, [], ◌∷◌}
 use Prim.Native.Nat.{ℕ, ◌+◌, ◌*◌, ◌≤◌}
 use native.Mathlib.Omega.{arith}
-use denote.Enum.Declared.{tag_of}
-use types.Run.{OneOf, miss}
 use lib.ListN.{length, take, drop, length-drop}
 use lib.Seq.{drop-drop}
 use Rattle.ground.proofs.Test.{refuted}
@@ -18,8 +16,7 @@ use Rattle.jobs.specs.declared.Next.{Next}
 use Rattle.jobs.specs.declared.Next.TheVariants as next
 use Rattle.jobs.specs.Format.{field_size}
 use Rattle.jobs.specs.Check.{words_in, size_in, mask_in, entry_in, asked_in, good_entry, placed_in, next_in, next_of, good_file, opened_of}
-use Rattle.jobs.specs.contracts.Opened as opened_file
-use Rattle.jobs.specs.contracts.Next as next_entry
+use Rattle.jobs.specs.declared.Opened.TheVariants as opened
 use Rattle.jobs.proofs.Sizes.{field_bounds}
 use Rattle.jobs.proofs.GoodEntry.{good, next_is}
 use Rattle.jobs.proofs.Entries.{opened_good}
@@ -46,8 +43,8 @@ module _ (h : Header) (file : List ℕ) (at : ℕ) (this_good : good_entry h (dr
       ∙ ap (λ (t : Bool). cond t (placed_in h at (drop at file)) next.File) this_good
 
   -- so that the other answers do not come
-  pub no_other : (r : Next) → r ≡ next_of h file (record { at = at }) → OneOf (1 ∷ 2 ∷ []) (tag_of next_entry.the_type r) → ⊥
-  no_other r says other = miss (1 ∷ 2 ∷ []) 0 tt (subst (λ (x : Next). OneOf (1 ∷ 2 ∷ []) (tag_of next_entry.the_type x)) (says ∙ found) other)
+  pub no_other : (r : Next) → r ≡ next_of h file (record { at = at }) → ((e : EntryAt) (c : Cursor) → r ≡ next.Entry e c → ⊥) → ⊥
+  no_other r says other = other _ _ (says ∙ found)
 
   -- and the one that comes is the entry in its place
   pub record Placed (e : EntryAt) (c : Cursor) : Type 0 where
@@ -76,7 +73,6 @@ module _ (h : Header) (file : List ℕ) (at : ℕ) (this_good : good_entry h (dr
   words_there = ap (λ (l : List ℕ). words_of (take (2 * words_in h.version (drop at file)) l)) (sym (drop-drop (field_size h.version) at file))
 
 -- a file that is turned away
-pub no_job : (file : List ℕ) (r : Opened) → r ≡ opened_of file → OneOf (1 ∷ []) (tag_of opened_file.the_type r) → good_file file ≡ false
+pub no_job : (file : List ℕ) (r : Opened) → r ≡ opened_of file → ((h : Header) → r ≡ opened.Job h → ⊥) → good_file file ≡ false
 no_job file r says other =
-    refuted (good_file file)
-    (λ ok. miss (1 ∷ []) 0 tt (subst (λ (x : Opened). OneOf (1 ∷ []) (tag_of opened_file.the_type x)) (says ∙ opened_good file ok) other))
+    refuted (good_file file) (λ ok. other _ (says ∙ opened_good file ok))

@@ -4,8 +4,6 @@ use mathlib.Core.Bool.{Bool, true, cond}
 use mathlib.Core.List.{List, [], ◌∷◌}
 use Prim.Native.Nat.{ℕ, ◌+◌, ◌*◌}
 use native.Mathlib.Omega.{arith}
-use denote.Enum.Declared.{tag_of}
-use types.Run.{OneOf}
 use lib.ListN.{take, drop}
 use Rattle.ground.proofs.Test.{refuted}
 use Rattle.packing.specs.Words.{words_of}
@@ -16,7 +14,6 @@ use Rattle.jobs.specs.declared.Next.{Next}
 use Rattle.jobs.specs.declared.Next.TheVariants as next
 use Rattle.jobs.specs.Format.{field_size}
 use Rattle.jobs.specs.Check.{words_in, size_in, good_entry, next_of}
-use Rattle.jobs.specs.contracts.Next as next_entry
 use Rattle.jobs.proofs.Placed.{no_other, Placed, words_there}
 use Rattle.letters.specs.declared.Standing.{Standing}
 use Rattle.listening.specs.declared.Listened.{Listened}
@@ -26,7 +23,7 @@ module _ (h : Header) (front : List ℕ) (s : Standing) where
   abbrev said : Bool → Listened
   said t = cond t (listened_to s (heard_here h front) (size_in h.version front)) (nothing_heard s)
 
-  pub nothing_there : (r : Next) → r ≡ next_of h front (record { at = 0 }) → OneOf (1 ∷ 2 ∷ []) (tag_of next_entry.the_type r) → nothing_heard s ≡ listen_of h front s
+  pub nothing_there : (r : Next) → r ≡ next_of h front (record { at = 0 }) → ((e : EntryAt) (c : Cursor) → r ≡ next.Entry e c → ⊥) → nothing_heard s ≡ listen_of h front s
   unfolding listen_of
   nothing_there r says other = sym (ap said (refuted (good_entry h front) (λ is. absurd (no_other h front 0 is r says other))))
 

@@ -5,7 +5,6 @@ use mathlib.Core.List.{List, [], ◌∷◌}
 use Prim.Native.Nat.{ℕ, ◌≤◌}
 use native.Mathlib.Omega.{arith}
 use denote.Enum.Declared.{tag_of}
-use types.Run.{OneOf, miss}
 use lib.ListN.{length, take, drop}
 use lib.Seq.{take_at}
 use Rattle.ground.proofs.Test.{refuted}
@@ -16,7 +15,6 @@ use Rattle.questions.specs.declared.question.Question.{Question}
 use Rattle.commands.specs.Command.{command_line, issued_of, CommandPut}
 use Rattle.commands.specs.declared.Issued.{Issued}
 use Rattle.commands.specs.declared.Issued.TheVariants as issued
-use Rattle.commands.specs.contracts.Issued as issued_command
 use Rattle.commands.proofs.Issuing.{issued_good, issued_words, command_written}
 use Rattle.acceptance.proofs.Lengths.{command_words}
 use Rattle.registers.specs.Memory.{is_chain}
@@ -63,12 +61,10 @@ module _ (q : Question) where
 -- ---- the call
 
 module _ (n : ℕ) (q : Question) (memory : List ℕ) (blank : List ℕ) (size : length blank ≡ 140) where
-  pub not_sent : (r : Issued) (line : List ℕ) → r ≡ issued_of q (length blank) → OneOf (1 ∷ 2 ∷ []) (tag_of issued_command.the_type r) → SentDone n q memory memory line 0
+  pub not_sent : (r : Issued) (line : List ℕ) → r ≡ issued_of q (length blank) → ((words : ℕ) → r ≡ issued.Words words → ⊥) → SentDone n q memory memory line 0
   not_sent r line says other =
       let bad : good_question q ≡ false = refuted (good_question q) (λ good.
-      miss (1 ∷ 2 ∷ []) 0 tt
-      (subst (λ (x : Issued). OneOf (1 ∷ 2 ∷ []) (tag_of issued_command.the_type x))
-      (says ∙ issued_good q (length blank) good (omega (arith, command_words q good, words_most q good))) other)) in
+      other _ (says ∙ issued_good q (length blank) good (omega (arith, command_words q good, words_most q good)))) in
       record {
         words = sym (words_bad q bad);
         comes = sym (ap (λ (s : Chain). s.line) (sent_bad n memory q bad));

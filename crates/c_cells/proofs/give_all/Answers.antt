@@ -15,11 +15,11 @@ pub loop-k-preserved : goal.loop-k-preserved
 loop-k-preserved c =
     let a = c.args in
     let at = c.loop-k in
-    let twelve : length a.t1 ≡ 12 = omega (arith, c.well_formed) in (
+    let twelve : length a.cells ≡ 12 = omega (arith, c.well_formed) in (
       omega arith,
-      one_more microvolts_or a.t1 a.microvolts.now at.k at.microvolts at.invariant.1 _ _ _ (omega arith) (omega arith) c.give.ensures.microvolts,
-      one_more volts_or a.t1 a.volts.now at.k at.volts at.invariant.2 _ _ _ (omega arith) (omega arith) c.give.ensures.volts,
-      one_more packed_or a.t1 a.answers.now at.k at.answers at.invariant.3 _ 0 _ (omega arith) (omega arith) c.give.ensures.says,
+      one_more microvolts_or a.cells a.microvolts.now at.k at.microvolts at.invariant.1 _ _ _ (omega arith) (omega arith) c.give.ensures.microvolts,
+      one_more volts_or a.cells a.volts.now at.k at.volts at.invariant.2 _ _ _ (omega arith) (omega arith) c.give.ensures.volts,
+      one_more packed_or a.cells a.answers.now at.k at.answers at.invariant.3 _ 0 _ (omega arith) (omega arith) c.give.ensures.says,
       length-set at.microvolts at.k _ ∙ at.invariant.4,
       length-set at.volts at.k _ ∙ at.invariant.5,
       length-set at.answers at.k _ ∙ at.invariant.6,
@@ -29,8 +29,8 @@ pub returns : goal.returns
 returns c =
     let a = c.args in
     let at = c.loop-k in
-    let twelve : length a.t1 ≡ at.k = omega (arith, c.well_formed) in (
-      all_done microvolts_or a.t1 a.microvolts.now at.k at.microvolts at.invariant.1 twelve,
-      all_done volts_or a.t1 a.volts.now at.k at.volts at.invariant.2 twelve,
-      all_done packed_or a.t1 a.answers.now at.k at.answers at.invariant.3 twelve,
+    let twelve : length a.cells ≡ at.k = omega (arith, c.well_formed) in (
+      all_done microvolts_or a.cells a.microvolts.now at.k at.microvolts at.invariant.1 twelve,
+      all_done volts_or a.cells a.volts.now at.k at.volts at.invariant.2 twelve,
+      all_done packed_or a.cells a.answers.now at.k at.answers at.invariant.3 twelve,
     )

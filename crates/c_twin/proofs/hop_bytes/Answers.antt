@@ -1,40 +1,53 @@
 -- `hop_bytes` meets its contract: the devices step on the line's words in place, and these are packed again, as many as there were.
 use mathlib.Core.Path.{sym}
-use mathlib.Core.List.{◌++◌}
-use Prim.Native.Nat.{ℕ, ◌≤◌}
+use mathlib.Core.List.{List, ◌++◌}
+use Prim.Native.Nat.{ℕ, ◌%◌, ◌≤◌}
 use native.Mathlib.Omega.{arith}
-use lib.ListN.{length, drop, replicate, length-replicate}
+use lib.ListN.{length, take, drop, replicate, length-replicate}
 use lib.Seq.{length-take-le, length_front}
+use Rattle.packing.specs.Words.{LineTaken}
 use Rattle.c_twin.proofs.Bytes.{chain_bytes}
 use Rattle.c_twin.proofs.SteppedBytes.{line_count, hopped}
 use Rattle.c_twin.proofs.hop_bytes.Goals as goal
 
--- the line's words are no more than there is room for, before the devices
-few : (c : tie.After-take-line) → c.take_line-count.result ≤ length c.take_line-count.new.words
-few c =
-    let counts = line_count c.args.line.now (replicate {A = ℕ} 140 0) c.requires.3 c.requires.4 (length-replicate {A = ℕ} 140 0) _ c.take_line-count.result c.take_line-count.ensures in
-    omega (arith, counts, c.requires.4, c.take_line-count.auto.words, length-replicate {A = ℕ} 140 0)
+-- the line's words are no more than there is room for, before the devices, and after them
+module _ (line : List ℕ) (even : length line % 2 ≡ 0) (short : length line ≤ 280) (words : List ℕ) (count : ℕ)
+    (taken : LineTaken line (replicate {A = ℕ} 140 0) words count) (room : length words ≡ length (replicate {A = ℕ} 140 0)) where
+  few : count ≤ length words
+  few =
+      let none : length (replicate {A = ℕ} 140 0) ≡ 140 = length-replicate {A = ℕ} 140 0 in
+      let counts = line_count line (replicate {A = ℕ} 140 0) even short none words count taken in
+      omega (arith, counts, short, room, none)
 
--- and after them
-still : (c : tie.After-hops-in-place) → c.take_line-count.result ≤ length (c.hops_in_place.new.line ++ drop c.take_line-count.result c.take_line-count.new.words)
-still c =
-    omega (arith, few taken, length_front c.take_line-count.new.words c.hops_in_place.new.line c.take_line-count.result c.hops_in_place.auto.line)
+  still : (handed : List ℕ) → length handed ≡ length (take count words) → count ≤ length (handed ++ drop count words)
+  still handed same = omega (arith, few, length_front words handed count same)
 
 pub slice_bounds-words-end : goal.slice_bounds-words-end
-slice_bounds-words-end c = few c.before.before
+slice_bounds-words-end c =
+    let take_line = c.take_line-count in
+    few c.args.line.now c.requires.3 c.requires.4 take_line.new.words take_line.result take_line.ensures take_line.auto.words
 
 pub slice_bounds-hops_in_place-end : goal.slice_bounds-hops_in_place-end
-slice_bounds-hops_in_place-end c = sym (length-take-le c.take_line-count.result _ (few c.before.before.before))
+slice_bounds-hops_in_place-end c =
+    let take_line = c.take_line-count in
+    sym (length-take-le take_line.result _ (few c.args.line.now c.requires.3 c.requires.4 take_line.new.words take_line.result take_line.ensures take_line.auto.words))
 
 pub hops_in_place-requires : goal.hops_in_place-requires
 hops_in_place-requires c =
     (c.requires.1, omega (arith, c.requires.2, chain_bytes c.args.n (length c.args.memory.now) c.requires.0))
 
 pub slice_bounds-words-end-2 : goal.slice_bounds-words-end-2
-slice_bounds-words-end-2 c = still c.before.before.before
+slice_bounds-words-end-2 c =
+    let take_line = c.take_line-count in
+    let hops = c.hops_in_place in
+    still c.args.line.now c.requires.3 c.requires.4 take_line.new.words take_line.result take_line.ensures take_line.auto.words hops.new.line hops.auto.line
 
 pub slice_bounds-pack-end : goal.slice_bounds-pack-end
-slice_bounds-pack-end c = sym (length-take-le c.take_line-count.result _ (still c.before.before.before.before))
+slice_bounds-pack-end c =
+    let take_line = c.take_line-count in
+    let hops = c.hops_in_place in
+    sym (length-take-le take_line.result _
+    (still c.args.line.now c.requires.3 c.requires.4 take_line.new.words take_line.result take_line.ensures take_line.auto.words hops.new.line hops.auto.line))
 
 pub returns : goal.returns
 returns c =

@@ -3,15 +3,15 @@ use mathlib.Core.Path.{ap, ◌∙◌}
 use native.Mathlib.Omega.{arith}
 use Rattle.jobs.specs.declared.EntryAt.{EntryAt}
 use Rattle.jobs.proofs.Placed.{entry_stands, placed, entry_words, entry_within}
-use Rattle.listening.proofs.Listening.{heard_there}
+use Rattle.listening.proofs.Listening.{nothing_there, heard_there}
 use Rattle.listening.proofs.listen.Goals as goal
 
 pub hear_entry-requires : goal.hear_entry-requires
 hear_entry-requires c =
     let a = c.args in
     let front = a.front.now in
-    let e = c.next-1.given.0.0 in
-    let cursor = c.next-1.given.0.1.0 in
+    let e = c.in-Entry.entry in
+    let cursor = c.in-Entry.field-1 in
     let says = c.next_entry-next.ensures in
     let is = entry_stands a.header front 0 c.next_entry-next.result e cursor says c.in-Entry.is in
     let there = placed a.header front 0 is c.next_entry-next.result e cursor says c.in-Entry.is in
@@ -23,9 +23,14 @@ pub returns : goal.returns
 returns c =
     let a = c.args in
     let front = a.front.now in
-    let e = c.next-1.given.0.0 in
-    let cursor = c.next-1.given.0.1.0 in
+    let e = c.in-Entry.entry in
+    let cursor = c.in-Entry.field-1 in
     let says = c.next_entry-next.ensures in
     let is = entry_stands a.header front 0 c.next_entry-next.result e cursor says c.in-Entry.is in
     let there = placed a.header front 0 is c.next_entry-next.result e cursor says c.in-Entry.is in
     c.hear_entry.ensures ∙ heard_there a.header front a.standing is e cursor there
+
+pub returns-in_default : goal.returns-in_default
+returns-in_default c =
+    let a = c.args in
+    c.hear_nothing.ensures ∙ nothing_there a.header a.front.now a.standing c.next_entry-next.result c.next_entry-next.ensures c.in_default.not-Entry

@@ -7,7 +7,7 @@ use Rattle.contents.proofs.RowLaws.{positive}
 use Rattle.parts.proofs.part_start.Goals as goal
 
 -- what is known once the device's order is: few values, and the order below them
-there : (c : tie.After-order-of)
+there : (c : goal.After-order_of-k)
     → (c.values_found-m.result ≤ 32) × (c.order_of-k.result < c.values_found-m.result)
 there c =
     let a = c.args in

@@ -8,7 +8,7 @@ use Rattle.parts.proofs.Part.{PartAt, part_at, no_start_no_part}
 use Rattle.parts.proofs.register_part.Goals as goal
 
 -- once the place is known not to be 0, the part stands there
-there : (c : tie.Else1) → PartAt c.args.q c.args.line.now c.args.device
+there : (c : goal.Else-start-eq0) → PartAt c.args.q c.args.line.now c.args.device
 there c =
     let a = c.args in
     let start = c.part_start-start in
@@ -34,4 +34,4 @@ returns c =
     let start = c.part_start-start in
     let four : start.result + 4 - start.result ≡ 4 = omega arith in
     ap (λ (n : ℕ). take n (drop start.result a.line.now)) four
-    ∙ ap (λ (s : ℕ). take 4 (drop s a.line.now)) start.ensures ∙ (there c.before).part
+    ∙ ap (λ (s : ℕ). take 4 (drop s a.line.now)) start.ensures ∙ (part_at a.q a.line.now a.device (omega (arith, start.ensures, positive start.result c.if-start-eq0.false))).part

@@ -15,5 +15,5 @@ pub returns : goal.returns
 returns c =
     let a = c.args in
     let line = a.line.now in
-    c.at_byte.ensures ∙ ap (λ (b : ℕ). at_byte line row.Alive (c.shape_of-s.result.covered + 1) (One b)) c.wrapping_add_u8-due.ensures
+    c.at_byte.ensures ∙ ap (λ (b : ℕ). at_byte line row.Alive (c.shape_of-s.result.covered + 1) (One b)) c.wrapping_add_u8-due.ensures.value
     ∙ ap (λ (s : Shape). at_byte line row.Alive (s.covered + 1) (One ((a.q.seed + s.acting) % 256))) c.shape_of-s.ensures

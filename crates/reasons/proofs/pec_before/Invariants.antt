@@ -7,7 +7,7 @@ use Rattle.lines.specs.Line.{byte_at}
 use Rattle.reasons.proofs.pec_before.Given as goal
 
 -- the bytes from a place on taken in, so many of them
-pub left : List ℕ → (i n crc : ℕ) → ℕ
+unfoldable pub left : List ℕ → (i n crc : ℕ) → ℕ
 left line i n crc = run byte_step crc (tabulated (byte_at line) n i)
 
 abbrev pub invariant-loop-i : goal.invariant-loop-i
