@@ -1,5 +1,5 @@
 -- `hop_bytes` meets its contract: the devices step on the line's words in place, and these are packed again, as many as there were.
-use mathlib.Core.Path.{sym}
+use mathlib.Core.Path.{◌≡◌, sym}
 use mathlib.Core.List.{List, ◌++◌}
 use Prim.Native.Nat.{ℕ, ◌%◌, ◌≤◌}
 use native.Mathlib.Omega.{arith}
