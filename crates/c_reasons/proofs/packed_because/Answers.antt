@@ -5,7 +5,7 @@ use Rattle.c_reasons.proofs.OnWords.{how_most, one_most}
 use Rattle.c_reasons.proofs.packed_because.Goals as goal
 
 -- how it is placed has three bits, whether one thing alone would have passed has one
-small : (c : tie.After-sixteen3)
+small : (c : goal.After-sixteen-other)
     → (c.how_placed-how.result ≤ 4) × (c.is_one-one.result ≤ 1)
 small c =
     let b = c.args.b in

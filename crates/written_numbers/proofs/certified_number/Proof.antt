@@ -1,7 +1,0 @@
--- `certified_number` meets its contract: each answer has its number.
-use borrow.Author.Rules.{rules}
-use Rattle.written_numbers.proofs.certified_number.Statement.{statement}
-use Rattle.written_numbers.proofs.certified_number.Tie as tie
-
-pub certified_number_spec : {M : Type 1} → statement M
-certified_number_spec = tie.close (tie.spec (λ c. search rules) (λ c. search rules) (λ c. search rules) (λ c. search rules) (λ c. search rules) (λ c. search rules))
