@@ -1,4 +1,4 @@
-// The C side (document 01, "The C side"): what the adapters' firmware calls, over numbers and byte slices. Each function hands its arguments to
+// The C side (document 01, "The C side"): what the adapters' firmware calls, over numbers and byte slices; `bmc_c` exports them. Each hands its arguments to
 // a proved crate below and keeps that crate's contract; include/bmc.h declares them, and docs/C_INTERFACE.md has the packing.
 #![tactic(auto)]
 
@@ -25,8 +25,7 @@ use certificate::{Certified, certify};
 use pec::pec;
 use questions::question::ask;
 
-#[unsafe(no_mangle)]
-pub extern "C" fn bmc_read(
+pub fn bmc_read(
     kind: u8,
     n: u8,
     alive: u8,
@@ -43,8 +42,7 @@ pub extern "C" fn bmc_read(
     read_bytes(q, line, out)
 }
 
-#[unsafe(no_mangle)]
-pub extern "C" fn bmc_command(
+pub fn bmc_command(
     kind: u8,
     n: u8,
     alive: u8,
@@ -60,23 +58,20 @@ pub extern "C" fn bmc_command(
     command_bytes(command, out)
 }
 
-#[unsafe(no_mangle)]
-pub extern "C" fn bmc_certificate(file: &[u8], text: &mut [u8]) -> u32
+pub fn bmc_certificate(file: &[u8], text: &mut [u8]) -> u32
     ensures { CertificateBytesDone file.now text.old text.new result }
 {
     let certified = certify(file, text);
     packed_certified(certified)
 }
 
-#[unsafe(no_mangle)]
-pub extern "C" fn bmc_twin_power_on(n: u8, memory: &mut [u8]) -> u32
+pub fn bmc_twin_power_on(n: u8, memory: &mut [u8]) -> u32
     ensures { PowerBytesDone n memory.old memory.new result }
 {
     power_on_bytes(n, memory)
 }
 
-#[unsafe(no_mangle)]
-pub extern "C" fn bmc_twin_step(
+pub fn bmc_twin_step(
     n: u8,
     device: u8,
     memory: &mut [u8],
@@ -88,15 +83,13 @@ pub extern "C" fn bmc_twin_step(
     step_bytes(n, device, memory, line, out)
 }
 
-#[unsafe(no_mangle)]
-pub extern "C" fn bmc_twin_run(n: u8, memory: &mut [u8], line: &[u8], out: &mut [u8]) -> u32
+pub fn bmc_twin_run(n: u8, memory: &mut [u8], line: &[u8], out: &mut [u8]) -> u32
     ensures { RunBytesDone n memory.old memory.new line.now out.old out.new result }
 {
     run_bytes(n, memory, line, out)
 }
 
-#[unsafe(no_mangle)]
-pub extern "C" fn bmc_part(
+pub fn bmc_part(
     kind: u8,
     n: u8,
     alive: u8,
@@ -113,8 +106,7 @@ pub extern "C" fn bmc_part(
     part_bytes(put, named, line)
 }
 
-#[unsafe(no_mangle)]
-pub extern "C" fn bmc_cell(
+pub fn bmc_cell(
     cell: u8,
     enabled: u16,
     reg: u16,
@@ -127,8 +119,7 @@ pub extern "C" fn bmc_cell(
     cell_into(cell, enabled, reg, bipolar, microvolts, volts)
 }
 
-#[unsafe(no_mangle)]
-pub extern "C" fn bmc_cells(
+pub fn bmc_cells(
     enabled: u16,
     bipolar: u8,
     registers: &[u8],
@@ -142,8 +133,7 @@ pub extern "C" fn bmc_cells(
 }
 
 // Why a line is accepted or turned away, in one number.
-#[unsafe(no_mangle)]
-pub extern "C" fn bmc_explain(
+pub fn bmc_explain(
     kind: u8,
     n: u8,
     alive: u8,
@@ -160,8 +150,7 @@ pub extern "C" fn bmc_explain(
 }
 
 // The PEC of some bytes, for firmware that frames its own.
-#[unsafe(no_mangle)]
-pub extern "C" fn bmc_pec(bytes: &[u8]) -> u32
+pub fn bmc_pec(bytes: &[u8]) -> u32
     ensures { result ≡ pec_of bytes.now }
 {
     pec(bytes) as u32
