@@ -71,13 +71,7 @@ pub fn bmc_twin_power_on(n: u8, memory: &mut [u8]) -> u32
     power_on_bytes(n, memory)
 }
 
-pub fn bmc_twin_step(
-    n: u8,
-    device: u8,
-    memory: &mut [u8],
-    line: &[u8],
-    out: &mut [u8],
-) -> u32
+pub fn bmc_twin_step(n: u8, device: u8, memory: &mut [u8], line: &[u8], out: &mut [u8]) -> u32
     ensures { StepBytesDone n device memory.old memory.new line.now out.old out.new result }
 {
     step_bytes(n, device, memory, line, out)

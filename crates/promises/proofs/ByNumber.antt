@@ -59,5 +59,7 @@ pub data Alike : List Row → List Screened → Type 1 where
 pub first_given : (rows : List Row) (checks : List Screened) → Alike rows checks → (taken : Reading) → number_of taken ≡ 0
     → NumberDue rows (number_of (said (first_fault checks) taken))
 first_given [] [] end taken zero = zero
+first_given [] (check ∷ checks) alike taken zero = elim alike [ ]
+first_given (row number given ∷ rows) [] alike taken zero = elim alike [ ]
 first_given (row number given ∷ rows) (Passed ∷ checks) (next says others) taken zero = inr (says, first_given rows checks others taken zero)
 first_given (row number given ∷ rows) (Faulty why ∷ checks) (next says others) taken zero = inl (says.1, says.0)

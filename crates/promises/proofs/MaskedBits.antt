@@ -44,6 +44,8 @@ module _ (h : Header) where
 
   source : (before : List Heard) (x : Heard) (after : List Heard) (es : List Entry) → Forall₂ (FromReader h) es (before ++ (x ∷ after))
       → AllKeep h es → Source x after
+  source [] x after [] from keep = elim from [ ]
+  source (b ∷ before) x after [] from keep = elim from [ ]
   source [] x after (e ∷ es) (Forall₂.cons from rest) (more _ _ fits rules keep) =
       record { entry = e; fits = fits; rules = rules; is = only_one h e x from; later = es; keep = keep; rest = rest }
   source (b ∷ before) x after (e ∷ es) (Forall₂.cons from rest) (more _ _ fits rules keep) = source before x after es rest keep

@@ -53,6 +53,8 @@ module _ (h : Header) where
 
   all_only_one : (es : List Entry) (xs : List Heard) → Forall₂ (FromReader h) es xs → xs ≡ map (heard_of h) es
   all_only_one [] [] Forall₂.nil = refl
+  all_only_one [] (x ∷ xs) from = elim from [ ]
+  all_only_one (e ∷ es) [] from = elim from [ ]
   all_only_one (e ∷ es) (x ∷ xs) (Forall₂.cons from rest) =
       ap₂ (λ (y : Heard) (ys : List Heard). y ∷ ys) (only_one e x from) (all_only_one es xs rest)
 
