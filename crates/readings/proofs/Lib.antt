@@ -1,4 +1,3 @@
-pub mod Others
 pub mod FirstFault
 mod Packed
 pub mod Agree
