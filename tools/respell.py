@@ -108,7 +108,7 @@ def turned(text, names, mark, lemmas):
         return snake(name)
 
     def span(it):
-        return TOKEN.sub(word, it[0])
+        return "`" + TOKEN.sub(word, it[0][1:-1]) + "`"
 
     return "".join(TOKEN.sub(word, piece) if code else SPAN.sub(span, piece) for code, piece in code_and_comments(text, mark))
 
@@ -145,7 +145,7 @@ def main(top):
                 clash = True
         new[path] = turned(text, names, mark, lemmas)
     for path in files(os.path.join(top, "docs"), ".md"):
-        new[path] = SPAN.sub(lambda it: TOKEN.sub(lambda w: snake(w[0]) if w[0] in names else w[0], it[0]), read(path))
+        new[path] = SPAN.sub(lambda it: "`" + TOKEN.sub(lambda w: snake(w[0]) if w[0] in names else w[0], it[0][1:-1]) + "`", read(path))
     if clash and "--anyway" not in sys.argv:
         return 1
     for path, text in new.items():

@@ -21,7 +21,6 @@ use Rattle.readings.specs.declared.Refusal.TheVariants.{Question, Room, Length, 
 use Rattle.readings.specs.declared.Reading.{Reading}
 use Rattle.readings.specs.declared.Reading.TheVariants.{Counted, Written, Values}
 use Rattle.readings.specs.declared.Screened.{Screened}
-use Rattle.readings.specs.declared.Screened.TheVariants.{Passed}
 use Rattle.readings.proofs.FirstFault.{first_of_each}
 use Rattle.readings.proofs.FirstFault.Each.{none, next}
 use Rattle.contents.specs.Rows.{byte_in, echoed, pec_right, alive_right, check_byte, count_right, taken_of}

@@ -1,7 +1,7 @@
 -- A line that rows 1 to 6 let pass: its bytes fit the array that they are read into, and what they carry is what the line carries.
 use mathlib.Core.Path.{◌≡◌, ap}
 use mathlib.Core.List.{List}
-use Prim.Native.Nat.{ℕ, ◌-◌, ◌≤◌}
+use Prim.Native.Nat.{ℕ, ◌≤◌}
 use native.Mathlib.Omega.{arith}
 use lib.ListN.{length}
 use Rattle.lines.specs.Line.{bytes_of}

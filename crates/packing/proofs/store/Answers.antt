@@ -1,7 +1,7 @@
 -- `store` meets its contract: the loop keeps the bytes so far in their places, and what lies beyond the end is not stored.
 use mathlib.Core.Path.{refl, sym, ap, ◌∙◌}
 use mathlib.Core.List.{List}
-use Prim.Native.Nat.{ℕ, ◌+◌, ◌-◌}
+use Prim.Native.Nat.{ℕ, ◌+◌}
 use native.Mathlib.Omega.{arith}
 use lib.ListN.{get_or, set, length-set}
 use Rattle.packing.proofs.Storing.{all_beyond, stored_next, stored_all}

@@ -1,6 +1,6 @@
 -- `take_in_from` meets its contract: what is left of the bytes, taken in from here, always comes to the same.
 use mathlib.Core.Path.{refl, sym, ap, ◌∙◌}
-use Prim.Native.Nat.{ℕ, ◌+◌, ◌-◌}
+use Prim.Native.Nat.{ℕ, ◌+◌}
 use lib.ListN.{drop}
 use Rattle.remainder.specs.Register.{run}
 use Rattle.remainder.proofs.Run.{run_next, run_end}

@@ -1,6 +1,5 @@
 -- `are_nibbles` meets its contract: the marks so far, with what is left from here, always answer as the whole does.
 use mathlib.Core.Path.{refl, sym, ◌∙◌}
-use Prim.Native.Nat.{◌-◌}
 use Rattle.characters.specs.Nibble.{is_nibble}
 use Rattle.scanning.proofs.Marks.{no_more, one_more}
 use Rattle.scanning.proofs.are_nibbles.Goals as goal

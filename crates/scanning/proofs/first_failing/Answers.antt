@@ -1,6 +1,5 @@
 -- `first_failing` meets its contract: what is left from here always answers as the whole does.
 use mathlib.Core.Path.{refl, sym, ◌∙◌}
-use Prim.Native.Nat.{◌-◌}
 use native.Mathlib.Omega.{arith}
 use Rattle.scanning.specs.Along.{test_of}
 use Rattle.scanning.proofs.FirstPlace.{scan_on, scan_here, scan_done}

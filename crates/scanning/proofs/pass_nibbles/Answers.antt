@@ -1,6 +1,6 @@
 -- `pass_nibbles` meets its contract: no place so far fails, and a block that passes adds none.
 use mathlib.Core.Path.{sym, ◌∙◌}
-use Prim.Native.Nat.{◌+◌, ◌-◌, ◌≤◌}
+use Prim.Native.Nat.{◌+◌, ◌≤◌}
 use native.Mathlib.Omega.{arith}
 use Rattle.characters.specs.Nibble.{is_nibble}
 use Rattle.scanning.proofs.FirstPlace.{scan_done, block_on}
