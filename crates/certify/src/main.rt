@@ -15,22 +15,23 @@ fn text_memory() -> [u8; MOST_TEXT]
     [0; MOST_TEXT]
 }
 
-fn say(bytes: &[u8]) {
-    put_out(bytes, b"certify: the certificate could not be written\n");
+fn say(rt: &HostRuntime, bytes: &[u8]) {
+    let complaint = b"certify: the certificate could not be written\n";
+    put_out(&mut rt.stdout(), &mut rt.stderr(), bytes, complaint);
 }
 
-fn answer(file: &[u8]) {
+fn answer(rt: &HostRuntime, file: &[u8]) {
     let mut text = text_memory();
     let certified = certify(file, &mut text);
     let Certified::Bytes(n) = certified else {
-        say(b"R 14\n");
+        say(rt, b"R 14\n");
         return;
     };
-    say(&text[..n]);
+    say(rt, &text[..n]);
 }
 
-fn main() {
+fn main(rt: HostRuntime) {
     let mut file = job_memory();
-    let n = take_in(&mut file);
-    answer(&file[..n]);
+    let n = take_in(&mut rt.stdin(), &mut file);
+    answer(&rt, &file[..n]);
 }

@@ -1,11 +1,12 @@
 // A question put to three devices: written out as a command, stepped through the chain, and read back.
 ghost use Rattle.std.specs.Prelude.{◌≡◌, length};
 
-use crate::show::{bytes_on, number, text, values};
+use crate::show::{bytes_on, values};
 use commands::{Issued, write_command};
 use questions::question::{Question, READALL};
 use reader::read::read;
 use readings::Reading;
+use std::io;
 use twin::step::{Stepped, run_chain};
 
 // Register 12h of three devices; the alive byte is on and starts at FEh, so that it wraps on the way.
@@ -32,36 +33,30 @@ fn room_for_values() -> [u16; 3]
     [0; 3]
 }
 
-fn say(reading: Reading, out: &[u16]) {
+fn say(rt: &impl Print, reading: Reading, out: &[u16]) -> io::Result<()> {
     match reading {
-        Reading::Counted(count) => {
-            text(b"accepted: ");
-            number(count as usize);
-            text(b" devices answer\n");
-        }
-        Reading::Written => {
-            text(b"accepted: the chain has had the write; whether it holds, a read must tell\n");
-        }
+        Reading::Counted(count) => println!(rt; "accepted: {count} devices answer"),
+        Reading::Written => println!(rt;
+            "accepted: the chain has had the write; whether it holds, a read must tell"
+        ),
         Reading::Values(_) => {
-            text(b"accepted: from device 0 up,");
-            values(out);
-            text(b"\n");
+            print!(rt; "accepted: from device 0 up,")?;
+            values(rt, out)?;
+            println!(rt)
         }
         Reading::Refused(_) => {
-            text(b"turned away, number ");
-            number(readings::number_of(reading) as usize);
-            text(b"\n");
+            println!(rt; "turned away, number {}", readings::number_of(reading))
         }
     }
 }
 
-fn read_back(q: Question, answer: &[u16]) {
-    text(b"  came back");
-    bytes_on(answer);
+fn read_back(rt: &impl Print, q: Question, answer: &[u16]) -> io::Result<()> {
+    print!(rt; "  came back")?;
+    bytes_on(rt, answer)?;
     let mut out = room_for_values();
     let reading = read(q, answer, &mut out);
-    text(b"  reader    ");
-    say(reading, &out);
+    print!(rt; "  reader    ")?;
+    say(rt, reading, &out)
 }
 
 // Noise: bits of the sixth character turn over.
@@ -80,37 +75,53 @@ fn is_turned_away(stepped: Stepped) -> bool {
 }
 
 // The chain's answer to a command.
-fn through_the_chain(q: Question, line: &[u16], memory: &mut [u16]) {
+fn through_the_chain(
+    rt: &impl Print,
+    q: Question,
+    line: &[u16],
+    memory: &mut [u16],
+) -> io::Result<()> {
     let mut back = line_of_words();
     let stepped = run_chain(3, memory, line, &mut back);
     let words = line.len();
     if is_turned_away(stepped) {
-        text(b"  the chain turns the call away\n");
-        return;
+        return println!(rt; "  the chain turns the call away");
     }
     if words <= back.len() {
-        read_back(q, &back[..words]);
+        return read_back(rt, q, &back[..words]);
     }
+    Ok(())
 }
 
 // What is sent, what noise makes of it, and what comes of it.
-fn send(q: Question, noise: u16, line: &mut [u16], memory: &mut [u16]) {
-    text(b"  sent     ");
-    bytes_on(line);
+fn send(
+    rt: &impl Print,
+    q: Question,
+    noise: u16,
+    line: &mut [u16],
+    memory: &mut [u16],
+) -> io::Result<()> {
+    print!(rt; "  sent     ")?;
+    bytes_on(rt, line)?;
     turn_over(line, noise);
-    through_the_chain(q, line, memory);
+    through_the_chain(rt, q, line, memory)
 }
 
-pub(crate) fn bench(title: &[u8], q: Question, noise: u16, memory: &mut [u16]) {
-    text(b"\n");
-    text(title);
+pub(crate) fn bench(
+    rt: &impl Print,
+    title: &str,
+    q: Question,
+    noise: u16,
+    memory: &mut [u16],
+) -> io::Result<()> {
+    println!(rt; "\n{title}")?;
     let mut line = line_of_words();
     let issued = write_command(q, &mut line);
     let words = words_of(issued);
     if line.len() < words {
-        return;
+        return Ok(());
     }
-    send(q, noise, &mut line[..words], memory);
+    send(rt, q, noise, &mut line[..words], memory)
 }
 
 // How many words a command has; none where there is no command.

@@ -9,7 +9,7 @@ use bench::{ask, bench, registers};
 use questions::question::{HELLOALL, READALL, WRITEALL, WRITEDEVICE};
 use reader::read::read;
 use registers::{Powered, power_on};
-use show::text;
+use std::io;
 
 fn is_on(powered: Powered) -> bool {
     match powered {
@@ -18,63 +18,69 @@ fn is_on(powered: Powered) -> bool {
     }
 }
 
-fn main() {
+fn main(rt: HostRuntime) -> io::Result<()> {
     let mut memory = registers();
-    text(
-        b"A bench of three devices, rehearsed on the twin. The alive byte is on and starts at fe.\n\n",
-    );
+    println!(rt;
+        "A bench of three devices, rehearsed on the twin. The alive byte is on and starts at fe.\n"
+    )?;
     let powered = power_on(3, &mut memory);
     if !is_on(powered) {
-        text(b"The twin turns the call away.\n");
-        return;
+        return println!(rt; "The twin turns the call away.");
     }
-    text(b"Power-on: every register holds what data sheet 004 gives it.\n");
+    println!(rt; "Power-on: every register holds what data sheet 004 gives it.")?;
     bench(
-        b"HELLOALL. How many devices are there?\n",
+        &rt,
+        "HELLOALL. How many devices are there?",
         ask(HELLOALL, 0, 0),
         0,
         &mut memory,
-    );
+    )?;
     bench(
-        b"WRITEALL. 000f to register 12 of every device.\n",
+        &rt,
+        "WRITEALL. 000f to register 12 of every device.",
         ask(WRITEALL, 0, 0x000F),
         0,
         &mut memory,
-    );
+    )?;
     bench(
-        b"READALL. What does register 12 hold?\n",
+        &rt,
+        "READALL. What does register 12 hold?",
         ask(READALL, 0, 0),
         0,
         &mut memory,
-    );
+    )?;
     bench(
-        b"WRITEDEVICE. 0003 to register 12 of device 1; noise turns over two bits of a character once it is sent.\n",
+        &rt,
+        "WRITEDEVICE. 0003 to register 12 of device 1; noise turns over two bits of a character once it is sent.",
         ask(WRITEDEVICE, 1, 0x0003),
         0x006,
         &mut memory,
-    );
+    )?;
     bench(
-        b"READALL. What does register 12 hold now?\n",
+        &rt,
+        "READALL. What does register 12 hold now?",
         ask(READALL, 0, 0),
         0,
         &mut memory,
-    );
-    text(
-        b"\nNumber 7 is ECHO: what came back is not what was asked. The noise made the command's PEC wrong,\n",
-    );
-    text(
-        b"so device 1 let it pass and kept 000f. Only a read after the write tells what happened.\n",
-    );
+    )?;
+    println!(rt;
+        "\nNumber 7 is ECHO: what came back is not what was asked. The noise made the command's PEC wrong,"
+    )?;
+    println!(rt;
+        "so device 1 let it pass and kept 000f. Only a read after the write tells what happened."
+    )?;
     bench(
-        b"WRITEDEVICE. The same once more, with a quiet line.\n",
+        &rt,
+        "WRITEDEVICE. The same once more, with a quiet line.",
         ask(WRITEDEVICE, 1, 0x0003),
         0,
         &mut memory,
-    );
+    )?;
     bench(
-        b"READALL. What does register 12 hold in the end?\n",
+        &rt,
+        "READALL. What does register 12 hold in the end?",
         ask(READALL, 0, 0),
         0,
         &mut memory,
-    );
+    )
 }

@@ -1,33 +1,22 @@
 // What the demonstration prints.
 use lines::read::byte_at;
-
-pub(crate) fn text(s: &[u8]) {
-    io::write_all(libc::STDOUT_FILENO, s);
-}
-
-pub(crate) fn number(n: usize) {
-    io::print_decimal(libc::STDOUT_FILENO, n as u64);
-}
-
-fn hex(n: u16, digits: usize) {
-    text(b" ");
-    io::print_hex(libc::STDOUT_FILENO, n as u64, digits);
-}
+use std::io;
 
 // The bytes between preamble and stop.
-pub(crate) fn bytes_on(line: &[u16]) {
+pub(crate) fn bytes_on(rt: &impl Print, line: &[u16]) -> io::Result<()> {
     let mut i = 1;
     while i < line.len() / 2 {
-        hex(byte_at(line, i - 1) as u16, 2);
+        print!(rt; " {:02x}", byte_at(line, i - 1))?;
         i += 1;
     }
-    text(b"\n");
+    println!(rt)
 }
 
-pub(crate) fn values(words: &[u16]) {
+pub(crate) fn values(rt: &impl Print, words: &[u16]) -> io::Result<()> {
     let mut k = 0;
     while k < words.len() {
-        hex(words[k], 4);
+        print!(rt; " {:04x}", words[k])?;
         k += 1;
     }
+    Ok(())
 }

@@ -8,34 +8,23 @@ mod syndromes;
 ghost use Rattle.std.specs.Prelude.{◌≡◌, ◌≤◌, length};
 
 use count::{pairs, triples};
+use std::io;
 use syndromes::syndromes;
 
 // A bit of a byte is two bits of the line. Up to this many devices a damage that passes turns over three bits of the bytes at least, as
 // the laws of `pec` say; with more devices two are enough.
 const FEW_DEVICES: usize = 14;
 
-fn text(s: &[u8]) {
-    io::write_all(libc::STDOUT_FILENO, s);
-}
-
-fn number(n: u64) {
-    io::print_decimal(libc::STDOUT_FILENO, n);
-}
-
 // A device count, at the right of the first column.
-fn devices(n: usize) {
-    text(b"     ");
-    if n < 10 {
-        text(b" ");
-    }
-    number(n as u64);
+fn devices(rt: &impl Print, n: usize) -> io::Result<()> {
+    print!(rt; "{n:>7}")
 }
 
-fn line_bits(n: usize) {
+fn line_bits(rt: &impl Print, n: usize) -> io::Result<()> {
     if n <= FEW_DEVICES {
-        text(b"          6  ");
+        print!(rt; "          6  ")
     } else {
-        text(b"          4  ");
+        print!(rt; "          4  ")
     }
 }
 
@@ -53,28 +42,28 @@ fn damages(table: &[u8], n: usize) -> u64
     }
 }
 
-fn row(table: &[u8], n: usize)
+fn row(rt: &impl Print, table: &[u8], n: usize) -> io::Result<()>
     requires value { 520 ≡ length table.now }
     requires n_bound { n ≤ 32 }
 {
-    devices(n);
-    line_bits(n);
-    number(damages(table, n));
-    text(b"\n");
+    devices(rt, n)?;
+    line_bits(rt, n)?;
+    println!(rt; "{}", damages(table, n))
 }
 
-fn rows(table: &[u8])
+fn rows(rt: &impl Print, table: &[u8]) -> io::Result<()>
     requires { 520 ≡ length table.now }
 {
     let mut n = 1;
     while n <= 32 {
-        row(table, n);
+        row(rt, table, n)?;
         n += 1;
     }
+    Ok(())
 }
 
-fn main() {
-    text(b"devices  line bits  damages that pass\n");
+fn main(rt: HostRuntime) -> io::Result<()> {
+    println!(rt; "devices  line bits  damages that pass")?;
     let table = syndromes();
-    rows(&table);
+    rows(&rt, &table)
 }

@@ -2,100 +2,55 @@
 use readings::Refusal;
 use reasons::{Field, Spot};
 use slices::least;
-
-pub(crate) fn text(s: &[u8]) {
-    io::write_all(libc::STDOUT_FILENO, s);
-}
-
-pub(crate) fn number(n: usize) {
-    io::print_decimal(libc::STDOUT_FILENO, n as u64);
-}
-
-fn letter(c: u8) {
-    text(&[c]);
-}
-
-// The lowest four bits, as a digit or a capital letter.
-fn digit(n: usize) {
-    let k = (n % 16) as u8;
-    if k < 10 {
-        letter(48 + k);
-    } else {
-        letter(55 + k);
-    }
-}
-
-fn byte(n: usize) {
-    digit(n / 16);
-    digit(n);
-}
+use std::io;
 
 // A byte and a word in hex, places, fields and lengths in decimal.
-pub(crate) fn quantity(spot: Spot, n: usize) {
+pub(crate) fn quantity(rt: &impl Print, spot: Spot, n: usize) -> io::Result<()> {
     match spot {
-        Spot::Asked(_) => number(n),
-        Spot::Whole => {
-            number(n);
-            text(b" bytes");
-        }
-        Spot::Word(_) => {
-            byte(n / 256);
-            byte(n);
-            text(b"h");
-        }
-        Spot::Byte(_) => {
-            byte(n);
-            text(b"h");
-        }
+        Spot::Asked(_) => print!(rt; "{n}"),
+        Spot::Whole => print!(rt; "{n} bytes"),
+        Spot::Word(_) => print!(rt; "{:04X}h", n % 65536),
+        Spot::Byte(_) => print!(rt; "{:02X}h", n % 256),
     }
 }
 
-fn field(f: Field) {
+fn field(f: Field) -> &'static str {
     match f {
-        Field::Kind => text(b"kind"),
-        Field::Alive => text(b"alive"),
-        Field::Devices => text(b"n"),
-        Field::Device => text(b"device"),
+        Field::Kind => "kind",
+        Field::Alive => "alive",
+        Field::Devices => "n",
+        Field::Device => "device",
     }
 }
 
 // A byte of the line is two of its words. No answer has more than 69 bytes: the bound keeps the sum small, and is never met.
-fn byte_place(i: usize) {
+fn byte_place(rt: &impl Print, i: usize) -> io::Result<()> {
     let low = 1 + 2 * least(i, 69);
-    text(b"byte ");
-    number(i);
-    text(b" (words ");
-    number(low);
-    text(b" and ");
-    number(low + 1);
-    text(b")");
+    print!(rt; "byte {i} (words {low} and {})", low + 1)
 }
 
-pub(crate) fn spot_of(spot: Spot) {
+pub(crate) fn spot_of(rt: &impl Print, spot: Spot) -> io::Result<()> {
     match spot {
-        Spot::Asked(f) => field(f),
-        Spot::Whole => text(b"the line"),
-        Spot::Word(i) => {
-            text(b"word ");
-            number(i);
-        }
-        Spot::Byte(i) => byte_place(i),
+        Spot::Asked(f) => print!(rt; "{}", field(f)),
+        Spot::Whole => print!(rt; "the line"),
+        Spot::Word(i) => print!(rt; "word {i}"),
+        Spot::Byte(i) => byte_place(rt, i),
     }
 }
 
 // Document 01's name of a row.
-pub(crate) fn name(why: Refusal) {
+pub(crate) fn name(why: Refusal) -> &'static str {
     match why {
-        Refusal::Question => text(b"QUESTION"),
-        Refusal::Room => text(b"ROOM"),
-        Refusal::Length => text(b"LENGTH"),
-        Refusal::Character(_) => text(b"CHARACTER"),
-        Refusal::Frame => text(b"FRAME"),
-        Refusal::Manchester(_) => text(b"MANCHESTER"),
-        Refusal::Echo => text(b"ECHO"),
-        Refusal::Pec => text(b"PEC"),
-        Refusal::Alive => text(b"ALIVE"),
-        Refusal::Check(_) => text(b"CHECK"),
-        Refusal::Count(_) => text(b"COUNT"),
+        Refusal::Question => "QUESTION",
+        Refusal::Room => "ROOM",
+        Refusal::Length => "LENGTH",
+        Refusal::Character(_) => "CHARACTER",
+        Refusal::Frame => "FRAME",
+        Refusal::Manchester(_) => "MANCHESTER",
+        Refusal::Echo => "ECHO",
+        Refusal::Pec => "PEC",
+        Refusal::Alive => "ALIVE",
+        Refusal::Check(_) => "CHECK",
+        Refusal::Count(_) => "COUNT",
     }
 }

@@ -6,22 +6,23 @@
 use intake::{job_memory, put_out, take_in};
 use rehearsal::{Rehearsed, rehearse};
 
-fn say(bytes: &[u8]) {
-    put_out(bytes, b"rehearse: the file could not be written\n");
+fn say(rt: &HostRuntime, bytes: &[u8]) {
+    let complaint = b"rehearse: the file could not be written\n";
+    put_out(&mut rt.stdout(), &mut rt.stderr(), bytes, complaint);
 }
 
-fn answer(file: &[u8]) {
+fn answer(rt: &HostRuntime, file: &[u8]) {
     let mut out = job_memory();
     let rehearsed = rehearse(file, &mut out);
     let Rehearsed::Bytes(n) = rehearsed else {
-        say(b"R 14\n");
+        say(rt, b"R 14\n");
         return;
     };
-    say(&out[..n]);
+    say(rt, &out[..n]);
 }
 
-fn main() {
+fn main(rt: HostRuntime) {
     let mut file = job_memory();
-    let n = take_in(&mut file);
-    answer(&file[..n]);
+    let n = take_in(&mut rt.stdin(), &mut file);
+    answer(&rt, &file[..n]);
 }

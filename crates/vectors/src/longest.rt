@@ -2,9 +2,9 @@
 ghost use Rattle.std.specs.Prelude.{◌≡◌, length};
 
 use crate::heard::answer;
-use crate::show::byte;
 use crate::wire::ask;
 use questions::question::READALL;
+use std::io;
 use writing::put_line;
 
 fn longest_bytes() -> [u8; 69]
@@ -26,7 +26,7 @@ fn longer_line() -> [u16; 141]
 }
 
 // 32 devices with seed F0h: the alive byte comes back as 10h. 140 words are good, 141 are LENGTH.
-pub(crate) fn longest() {
+pub(crate) fn longest(rt: &impl Print) -> io::Result<()> {
     let q = ask(READALL, 32, 1, 0xF0);
     let mut bytes = longest_bytes();
     bytes[0] = 0x03;
@@ -35,9 +35,9 @@ pub(crate) fn longest() {
     bytes[68] = 0x10;
     let mut line = longest_line();
     put_line(&bytes, &mut line);
-    answer(q, &line);
+    answer(rt, q, &line)?;
     let longer = longer_line();
-    answer(q, &longer);
+    answer(rt, q, &longer)
 }
 
 fn fifteen_bytes() -> [u8; 34]
@@ -53,7 +53,7 @@ fn fifteen_line() -> [u16; 70]
 }
 
 // At 15 devices, bit 0 of the first value byte and bit 7 of the PEC turned over give another acceptable answer.
-pub(crate) fn fifteen() {
+pub(crate) fn fifteen(rt: &impl Print) -> io::Result<()> {
     let q = ask(READALL, 15, 0, 0);
     let mut bytes = fifteen_bytes();
     bytes[0] = 0x03;
@@ -62,7 +62,7 @@ pub(crate) fn fifteen() {
     let mut line = fifteen_line();
     put_line(&bytes, &mut line);
     line[5] = line[5] ^ 0x006;
-    answer(q, &line);
+    answer(rt, q, &line)?;
     line[68] = line[68] ^ 0x180;
-    answer(q, &line);
+    answer(rt, q, &line)
 }

@@ -11,88 +11,77 @@ ghost use Rattle.std.specs.Prelude.{◌≡◌, length};
 
 use lines::read::{byte_at, read_bytes};
 use scanning::{first_no_character, first_no_nibble, is_framed};
-use show::{byte, bytes_of, place, text, word, words_of, yes_or_no};
+use show::{bytes_of, place, words_of, yes_or_no};
+use std::io;
 use writing::put_line;
 
-fn pec_of(bytes: &[u8]) {
-    text(b"PEC");
-    bytes_of(bytes);
-    text(b": ");
-    byte(pec::pec(bytes));
-    text(b"\n");
+fn pec_of(rt: &impl Print, bytes: &[u8]) -> io::Result<()> {
+    print!(rt; "PEC")?;
+    bytes_of(rt, bytes)?;
+    println!(rt; ": {:02x}", pec::pec(bytes))
 }
 
-fn nibble(n: u8) {
-    text(b"nibble ");
-    byte(n);
-    text(b": word ");
+fn nibble(rt: &impl Print, n: u8) -> io::Result<()> {
     let w = characters::word_of(n);
-    word(w);
-    text(b", back ");
-    byte(characters::true_bits(w));
-    text(b"\n");
+    let back = characters::true_bits(w);
+    println!(rt; "nibble {n:02x}: word {w:03x}, back {back:02x}")
 }
 
-fn rows(words: &[u16]) {
-    text(b"\n  no character at ");
-    place(first_no_character(words));
-    text(b", framed ");
-    yes_or_no(is_framed(words));
-    text(b", no nibble at ");
-    place(first_no_nibble(words));
+fn rows(rt: &impl Print, words: &[u16]) -> io::Result<()> {
+    print!(rt; "\n  no character at ")?;
+    place(rt, first_no_character(words))?;
+    print!(rt; ", framed {}, no nibble at ", yes_or_no(is_framed(words)))?;
+    place(rt, first_no_nibble(words))
 }
 
-fn two_bytes(words: &[u16]) {
-    text(b"\n  byte 0 ");
-    byte(byte_at(words, 0));
-    text(b", byte 5 ");
-    byte(byte_at(words, 5));
+fn two_bytes(rt: &impl Print, words: &[u16]) -> io::Result<()> {
+    let first = byte_at(words, 0);
+    let last = byte_at(words, 5);
+    print!(rt; "\n  byte 0 {first:02x}, byte 5 {last:02x}")
 }
 
-fn two_pecs(words: &[u16]) {
+fn two_pecs(rt: &impl Print, words: &[u16]) -> io::Result<()> {
     let mut three: [u8; 3] = [0; 3];
     read_bytes(words, &mut three);
-    text(b", PEC of bytes 0 to 2 ");
-    byte(pec::pec(&three));
+    print!(rt; ", PEC of bytes 0 to 2 {:02x}", pec::pec(&three))?;
     let mut five: [u8; 5] = [0; 5];
     read_bytes(words, &mut five);
-    text(b", of bytes 0 to 4 ");
-    byte(pec::pec(&five));
-    text(b"\n");
+    println!(rt; ", of bytes 0 to 4 {:02x}", pec::pec(&five))
 }
 
 // A line: what rows 4 to 6 say of it, and some of its bytes.
-fn line(words: &[u16]) {
-    text(b"line");
-    words_of(words);
-    rows(words);
-    two_bytes(words);
-    two_pecs(words);
+fn line(rt: &impl Print, words: &[u16]) -> io::Result<()> {
+    print!(rt; "line")?;
+    words_of(rt, words)?;
+    rows(rt, words)?;
+    two_bytes(rt, words)?;
+    two_pecs(rt, words)
 }
 
-fn pecs() {
-    pec_of(b"");
-    pec_of(b"\x01");
-    pec_of(b"\x02");
-    pec_of(b"\x03");
-    pec_of(b"\x03\x12\x00");
-    pec_of(b"\x03\x12\x00\x00\x00");
+fn pecs(rt: &impl Print) -> io::Result<()> {
+    pec_of(rt, b"")?;
+    pec_of(rt, b"\x01")?;
+    pec_of(rt, b"\x02")?;
+    pec_of(rt, b"\x03")?;
+    pec_of(rt, b"\x03\x12\x00")?;
+    pec_of(rt, b"\x03\x12\x00\x00\x00")
 }
 
-fn nibbles() {
+fn nibbles(rt: &impl Print) -> io::Result<()> {
     let mut n: u8 = 0;
     while n < 16 {
-        nibble(n);
+        nibble(rt, n)?;
         n += 1;
     }
+    Ok(())
 }
 
 // The line of six bytes, with the bits of a mask turned over in its word 3.
-fn damaged(bytes: &[u8], mask: u16) {
+fn damaged(rt: &impl Print, bytes: &[u8], mask: u16) -> io::Result<()> {
     let mut words = blank();
     put_line(bytes, &mut words);
     words[3] = words[3] ^ mask;
-    line(&words);
+    line(rt, &words)
 }
 
 fn blank() -> [u16; 14]
@@ -103,28 +92,26 @@ fn blank() -> [u16; 14]
 
 // READALL of 12h for one device, and its answer for 0000h: as it is; with one bit turned over, which parity finds; with two bits of one
 // character, which the complements find; with a bit and its complement, which is another nibble, and which only the PEC finds.
-fn whole_lines() {
-    damaged(b"\x03\x12\x00\xCB\xC2\xD3", 0);
-    damaged(b"\x03\x12\x00\x00\x00\xBC", 0);
-    damaged(b"\x03\x12\x00\x00\x00\xBC", 0x002);
-    damaged(b"\x03\x12\x00\x00\x00\xBC", 0x00A);
-    damaged(b"\x03\x12\x00\x00\x00\xBC", 0x006);
-    line(&[]);
+fn whole_lines(rt: &impl Print) -> io::Result<()> {
+    damaged(rt, b"\x03\x12\x00\xCB\xC2\xD3", 0)?;
+    damaged(rt, b"\x03\x12\x00\x00\x00\xBC", 0)?;
+    damaged(rt, b"\x03\x12\x00\x00\x00\xBC", 0x002)?;
+    damaged(rt, b"\x03\x12\x00\x00\x00\xBC", 0x00A)?;
+    damaged(rt, b"\x03\x12\x00\x00\x00\xBC", 0x006)?;
+    line(rt, &[])
 }
 
-fn main() {
-    pecs();
-    text(b"preamble ");
-    word(characters::PREAMBLE);
-    text(b", stop ");
-    word(characters::STOP);
-    text(b"\n");
-    nibbles();
-    whole_lines();
-    wire::commands();
-    heard::answers();
-    longest::longest();
-    longest::fifteen();
-    volts::worked();
-    volts::sweeps();
+fn main(rt: HostRuntime) -> io::Result<()> {
+    pecs(&rt)?;
+    let preamble = characters::PREAMBLE;
+    let stop = characters::STOP;
+    println!(rt; "preamble {preamble:03x}, stop {stop:03x}")?;
+    nibbles(&rt)?;
+    whole_lines(&rt)?;
+    wire::commands(&rt)?;
+    heard::answers(&rt)?;
+    longest::longest(&rt)?;
+    longest::fifteen(&rt)?;
+    volts::worked(&rt)?;
+    volts::sweeps(&rt)
 }

@@ -1,31 +1,18 @@
 // The worked numbers of cells, and a checksum over all measurements, which an independent second program works out too.
-use crate::show::{number, text, word};
 use cell_numbers::number_of;
 use cells::{Cell, CellRefusal, Range, Register, Voltage, read_cell};
+use std::io;
 
-fn range_name(range: Range) {
+fn range_name(range: Range) -> &'static str {
     match range {
-        Range::Unipolar => {
-            text(b"unipolar");
-        }
-        Range::Bipolar => {
-            text(b"bipolar");
-        }
+        Range::Unipolar => "unipolar",
+        Range::Bipolar => "bipolar",
     }
 }
 
 // How far n is from zero, or from -1 where it is negative: -n may not fit.
 fn distance(n: i32) -> u32 {
     if n < 0 { (-1 - n) as u32 } else { n as u32 }
-}
-
-fn signed(n: i32) {
-    if n < 0 {
-        text(b"-");
-        number(distance(n) as usize + 1);
-    } else {
-        number(distance(n) as usize);
-    }
 }
 
 // The two's complement pattern.
@@ -42,73 +29,59 @@ fn float_pattern(x: f32) -> u32 {
     if x != x { u32::MAX } else { f32::to_bits(x) }
 }
 
-fn four_bytes(w: u32) {
-    io::print_hex(libc::STDOUT_FILENO, w as u64, 8);
+fn measured(rt: &impl Print, v: Voltage) -> io::Result<()> {
+    print!(rt;
+        "{} microvolts, volts {:08x}",
+        v.microvolts,
+        float_pattern(v.volts)
+    )
 }
 
-fn measured(v: Voltage) {
-    signed(v.microvolts);
-    text(b" microvolts, volts ");
-    four_bytes(float_pattern(v.volts));
-}
-
-fn turned_away(why: CellRefusal) {
-    text(b"turned away, ");
+fn turned_away(rt: &impl Print, why: CellRefusal) -> io::Result<()> {
     match why {
-        CellRefusal::Channel => {
-            text(b"CHANNEL");
-        }
-        CellRefusal::LowBits => {
-            text(b"LOW BITS");
-        }
+        CellRefusal::Channel => print!(rt; "turned away, CHANNEL"),
+        CellRefusal::LowBits => print!(rt; "turned away, LOW BITS"),
     }
 }
 
-fn said(answer: Cell) {
-    text(b"number ");
-    number(number_of(answer) as usize);
-    text(b", ");
+fn said(rt: &impl Print, answer: Cell) -> io::Result<()> {
+    print!(rt; "number {}, ", number_of(answer))?;
     match answer {
         Cell::Measured(v) => {
-            measured(v);
+            measured(rt, v)?;
         }
         Cell::NotMeasured => {
-            text(b"not measured");
+            print!(rt; "not measured")?;
         }
         Cell::Refused(why) => {
-            turned_away(why);
+            turned_away(rt, why)?;
         }
     }
-    text(b"\n");
+    println!(rt)
 }
 
 // A cell, by its register and the mask of enabled cells.
-fn cell(range: Range, mask: u16, c: u8, register: u16) {
-    text(b"cell ");
-    number(c as usize);
-    text(b", ");
-    range_name(range);
-    text(b", mask ");
-    word(mask);
-    text(b", register ");
-    io::print_hex(libc::STDOUT_FILENO, register as u64, 4);
-    text(b": ");
-    said(read_cell(range, mask, c, Register(register)));
+fn cell(rt: &impl Print, range: Range, mask: u16, c: u8, register: u16) -> io::Result<()> {
+    print!(rt;
+        "cell {c}, {}, mask {mask:03x}, register {register:04x}: ",
+        range_name(range)
+    )?;
+    said(rt, read_cell(range, mask, c, Register(register)))
 }
 
 // Measurements 128, 8064, 0, 16383, 8192 twice and 11796, each times 4; then what is turned away or not measured.
-pub(crate) fn worked() {
-    cell(Range::Unipolar, 0x001, 1, 512);
-    cell(Range::Bipolar, 0x002, 2, 32256);
-    cell(Range::Bipolar, 0x001, 1, 0);
-    cell(Range::Unipolar, 0x800, 12, 65532);
-    cell(Range::Unipolar, 0x020, 6, 32768);
-    cell(Range::Bipolar, 0x020, 6, 32768);
-    cell(Range::Unipolar, 0x400, 11, 47184);
-    cell(Range::Unipolar, 0x001, 1, 0x0001);
-    cell(Range::Unipolar, 0xFFE, 1, 0x0001);
-    cell(Range::Unipolar, 0xFFF, 0, 0x0001);
-    cell(Range::Unipolar, 0xFFF, 13, 0x0001);
+pub(crate) fn worked(rt: &impl Print) -> io::Result<()> {
+    cell(rt, Range::Unipolar, 0x001, 1, 512)?;
+    cell(rt, Range::Bipolar, 0x002, 2, 32256)?;
+    cell(rt, Range::Bipolar, 0x001, 1, 0)?;
+    cell(rt, Range::Unipolar, 0x800, 12, 65532)?;
+    cell(rt, Range::Unipolar, 0x020, 6, 32768)?;
+    cell(rt, Range::Bipolar, 0x020, 6, 32768)?;
+    cell(rt, Range::Unipolar, 0x400, 11, 47184)?;
+    cell(rt, Range::Unipolar, 0x001, 1, 0x0001)?;
+    cell(rt, Range::Unipolar, 0xFFE, 1, 0x0001)?;
+    cell(rt, Range::Unipolar, 0xFFF, 0, 0x0001)?;
+    cell(rt, Range::Unipolar, 0xFFF, 13, 0x0001)
 }
 
 // Five places to the left, the bits that leave coming in on the right.
@@ -136,15 +109,15 @@ fn sum_of(range: Range) -> u32 {
     sum
 }
 
-fn sweep(range: Range) {
-    text(b"measurements 0 to 16383, ");
-    range_name(range);
-    text(b": checksum ");
-    four_bytes(sum_of(range));
-    text(b"\n");
+fn sweep(rt: &impl Print, range: Range) -> io::Result<()> {
+    println!(rt;
+        "measurements 0 to 16383, {}: checksum {:08x}",
+        range_name(range),
+        sum_of(range)
+    )
 }
 
-pub(crate) fn sweeps() {
-    sweep(Range::Unipolar);
-    sweep(Range::Bipolar);
+pub(crate) fn sweeps(rt: &impl Print) -> io::Result<()> {
+    sweep(rt, Range::Unipolar)?;
+    sweep(rt, Range::Bipolar)
 }
