@@ -1,6 +1,5 @@
 -- `give_all` meets its contract: after k turns the lent memories are as the first k cells leave them.
 use mathlib.Core.Path.{◌≡◌, refl, ◌∙◌}
-use Prim.Native.Nat.{◌-◌}
 use native.Mathlib.Omega.{arith}
 use lib.ListN.{length, length-set}
 use Rattle.c_cells.specs.CellBytes.{microvolts_or, volts_or}

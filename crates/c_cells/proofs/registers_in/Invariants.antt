@@ -1,7 +1,7 @@
 -- `registers_in` meets its contract: the registers so far, and then those of the bytes still to come, are the twelve.
 use mathlib.Core.Path.{◌≡◌}
 use mathlib.Core.List.{◌++◌}
-use Prim.Native.Nat.{◌+◌, ◌*◌, ◌-◌, ◌≤◌}
+use Prim.Native.Nat.{◌*◌, ◌-◌, ◌≤◌}
 use lib.ListN.{length, take, drop}
 use Rattle.c_cells.specs.CellsBytes.{registers_of}
 use Rattle.c_cells.proofs.registers_in.Given as goal

@@ -1,7 +1,7 @@
 -- `lay_pairs` meets its contract: the loop keeps so many fill pairs laid from the start on, and all else as it was.
 use mathlib.Core.Path.{◌≡◌, refl, ap, ◌∙◌}
 use mathlib.Core.List.{List}
-use Prim.Native.Nat.{ℕ, ◌+◌, ◌-◌, ◌*◌}
+use Prim.Native.Nat.{ℕ, ◌+◌, ◌*◌}
 use native.Mathlib.Omega.{arith}
 use Rattle.lines.specs.Line.{characters_of}
 use Rattle.packing.specs.Words.{as_bytes}

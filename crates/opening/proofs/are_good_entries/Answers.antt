@@ -1,6 +1,6 @@
 -- `are_good_entries` meets its contract: what is left from here decides as the whole does.
 use mathlib.Core.Path.{sym, ap, ◌∙◌}
-use Prim.Native.Nat.{ℕ, ◌+◌, ◌-◌}
+use Prim.Native.Nat.{ℕ, ◌+◌}
 use native.Mathlib.Omega.{arith}
 use lib.ListN.{drop, length-drop}
 use Rattle.ground.proofs.Lists.{part_to_end}

@@ -1,6 +1,5 @@
 -- `tell` meets its contract: what was told and what is left make up the whole, and in the end nothing is left.
 use mathlib.Core.Path.{sym, ◌∙◌}
-use Prim.Native.Nat.{◌-◌}
 use Rattle.jobs.proofs.Entries.{parts}
 use Rattle.certificate.proofs.Telling.{going_first, going_on, going_less, room_left, all_told}
 use Rattle.certificate.proofs.entries.tell.Goals as goal

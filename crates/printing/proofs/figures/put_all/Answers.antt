@@ -1,7 +1,7 @@
 -- `put_all` meets its contract: the loop keeps the bytes so far laid from the first place on.
 use mathlib.Core.Path.{refl, ap, sym, subst, ◌∙◌}
 use mathlib.Core.List.{List}
-use Prim.Native.Nat.{ℕ, ◌-◌}
+use Prim.Native.Nat.{ℕ}
 use native.Mathlib.Omega.{arith}
 use native.Mathlib.Numerals.{add-one}
 use lib.ListN.{take}

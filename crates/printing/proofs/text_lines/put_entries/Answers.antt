@@ -1,6 +1,6 @@
 -- `put_entries` meets its contract: the loop keeps the lines of the entries so far laid from the first place on.
 use mathlib.Core.Path.{◌≡◌, refl, subst, ◌∙◌}
-use Prim.Native.Nat.{ℕ, ◌-◌}
+use Prim.Native.Nat.{ℕ}
 use native.Mathlib.Omega.{arith}
 use lib.ListN.{length}
 use Rattle.printing.specs.Text.{first_lines}

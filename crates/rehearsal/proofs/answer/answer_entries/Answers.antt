@@ -1,6 +1,6 @@
 -- `answer_entries` meets its contract: what stands in the output, with the answers that are left behind it, is the whole.
 use mathlib.Core.Path.{ap, ◌∙◌}
-use Prim.Native.Nat.{ℕ, ◌-◌}
+use Prim.Native.Nat.{ℕ}
 use native.Mathlib.Omega.{arith}
 use Rattle.jobs.proofs.Sizes.{field_bounds}
 use Rattle.registers.specs.Memory.{is_chain}

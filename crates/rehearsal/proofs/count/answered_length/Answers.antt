@@ -1,6 +1,5 @@
 -- `answered_length` meets its contract: what is counted and what is left make up the whole.
 use mathlib.Core.Path.{sym, subst}
-use Prim.Native.Nat.{◌-◌}
 use native.Mathlib.Omega.{arith}
 use Rattle.jobs.proofs.Sizes.{field_bounds}
 use Rattle.jobs.proofs.Entries.{parts}

@@ -1,6 +1,6 @@
 -- `is_span` meets its contract: at each `return` the tests before it decide.
 use mathlib.Core.Path.{sym, ap, ◌∙◌}
-use mathlib.Core.Bool.{Bool, true, ◌&&◌}
+use mathlib.Core.Bool.{Bool, ◌&&◌}
 use lib.Dec.{leb}
 use borrow.Author.Tests.{le-leb, lt-leb}
 use Rattle.twin.proofs.step.is_span.Goals as goal

@@ -1,5 +1,5 @@
 -- `is_line_of` meets its contract: the loop keeps that each byte passed stands at its place, and the last word decides.
-use Rattle.std.proofs.Common.{◌≡◌, ℕ, ◌+◌, ◌-◌, ◌*◌, ◌≤◌, true, eqb, length, get_or, sym, ap, ◌∙◌, subst, ⊎_elim, not-suc-le-zero, eq-or-lt_of_le, arith}
+use Rattle.std.proofs.Common.{◌≡◌, ℕ, ◌+◌, ◌*◌, ◌≤◌, true, eqb, length, get_or, sym, ap, ◌∙◌, subst, ⊎_elim, not-suc-le-zero, eq-or-lt_of_le, arith}
 use Rattle.characters.specs.Character.{stop}
 use Rattle.underway.specs.TakeUp.{byte_stands}
 use Rattle.underway.proofs.Compared.{other_length, other_start, other_byte, all_but_last}

@@ -1,5 +1,5 @@
 -- `push_all` meets its contract: the loop keeps the bytes so far laid behind what stood.
-use Rattle.std.proofs.Common.{ℕ, ◌+◌, ◌-◌, List, [], ◌∷◌, get_or, take, sym, refl, ap, ◌∙◌, subst, add-one, arith, length-take-le, take_all, take-suc}
+use Rattle.std.proofs.Common.{ℕ, ◌+◌, List, [], ◌∷◌, get_or, take, sym, refl, ap, ◌∙◌, subst, add-one, arith, length-take-le, take_all, take-suc}
 use Rattle.underway.specs.Lay.{Laid}
 use Rattle.underway.proofs.Laying.{laid_nothing, laid_more}
 use Rattle.underway.proofs.pieces.push_all.Goals as goal

@@ -1,6 +1,6 @@
 -- `push_carried` meets its contract: the loop keeps the line's bytes so far laid behind what stood.
 use Rattle.underway.proofs.Laying.{laid_nothing, laid_more}
-use Rattle.std.proofs.Common.{◌≡◌, ℕ, ◌+◌, ◌-◌, [], ◌∷◌, ◌++◌, refl, ap, ◌∙◌, subst, arith}
+use Rattle.std.proofs.Common.{◌≡◌, ℕ, ◌+◌, [], ◌∷◌, ◌++◌, refl, ap, ◌∙◌, subst, arith}
 use Rattle.ground.specs.Sweep.{tabulated}
 use Rattle.ground.proofs.Lists.{tabulated_next}
 use Rattle.ground.proofs.Sweep.{length_tabulated}

@@ -1,5 +1,5 @@
 -- `push_pairs` meets its contract: the loop keeps the pairs so far laid behind what stood.
-use Rattle.std.proofs.Common.{◌≡◌, ℕ, ◌+◌, ◌-◌, [], ◌∷◌, refl, ◌∙◌, subst, arith}
+use Rattle.std.proofs.Common.{◌≡◌, ℕ, ◌+◌, [], ◌∷◌, refl, ◌∙◌, subst, arith}
 use Rattle.questions.specs.Bytes.{fill_pairs}
 use Rattle.questions.proofs.Bytes.{length_pairs}
 use Rattle.underway.specs.Lay.{Laid}
