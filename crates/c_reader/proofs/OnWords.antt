@@ -7,11 +7,10 @@ use mathlib.Core.List.{List, [], ◌++◌}
 use Prim.Native.Nat.{ℕ, ◌/◌, ◌≤◌, ◌<◌, min}
 use native.Mathlib.Nat.{eq-zero-or-pos}
 use native.Mathlib.Omega.{arith}
-use lib.Dec.{eqb, leb}
+use lib.Dec.{leb}
 use lib.ListN.{length, take, drop}
 use lib.Seq.{sets, take_at, take-append-le}
 use borrow.Author.Tests.{ne_eqb}
-use Rattle.lines.specs.Line.{bytes_of}
 use Rattle.lines.specs.Write.{at_front}
 use Rattle.packing.specs.Words.{as_bytes, line_on, line_in}
 use Rattle.packing.proofs.Taken.{whole_or_none, packed_front}

@@ -1,5 +1,5 @@
 -- Which bytes are a job file, and what stands in it (document 01, "Job file and certificate"; document 02, M-100). FILE is given exactly when
--- `goodFile` is false. That a file is good exactly when it is the encoding of a header and entries that keep the rules is proved in
+-- `good_file` is false. That a file is good exactly when it is the encoding of a header and entries that keep the rules is proved in
 -- proofs/GoodFile.antt.
 use Rattle.std.specs.Prelude.{Bool, true, cond, ◌&&◌, List, [], ◌∷◌, ℕ, zero, suc, ◌+◌, ◌*◌, leb, eqb, length, get_or, take, drop}
 use Rattle.packing.specs.Words.{words_of}

@@ -1,4 +1,4 @@
--- The table "Turned away" of document 01, rows 1 to 11 in their order: rows 1 to 6 are the list here, and rows 7 to 11 the list `byteRows` of
+-- The table "Turned away" of document 01, rows 1 to 11 in their order: rows 1 to 6 are the list here, and rows 7 to 11 the list `byte_rows` of
 -- crates/contents/specs/InOrder.antt. `rows_of` joins them. Each check runs over the whole line before the next.
 use Rattle.std.specs.Prelude.{List, [], ◌∷◌, ◌++◌, ℕ, eqb, leb, length}
 use Rattle.lines.specs.Line.{bytes_of}

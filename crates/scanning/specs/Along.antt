@@ -1,5 +1,5 @@
--- What the loops go by: the first bad place of a line from a place on, by how many places are left. Of a line's own words it is `firstFailing`
--- (`proofs/FirstPlace.antt`: `characters-along`, `nibbles-along`).
+-- What the loops go by: the first bad place of a line from a place on, by how many places are left. Of a line's own words it is `first_failing`
+-- (`proofs/FirstPlace.antt`: `characters_along`, `nibbles_along`).
 use Rattle.std.specs.Prelude.{Bool, cond, List, ℕ, zero, suc, get_or}
 use Rattle.character_check.specs.Check.{is_character}
 use Rattle.characters.specs.Nibble.{is_nibble}

@@ -1,7 +1,7 @@
 -- `hops_in_place` meets its contract: the loop keeps memory and line as the devices of the span so far have left them.
 use mathlib.Core.Path.{◌≡◌, refl, sym, ap, ap₂, ◌∙◌}
 use mathlib.Core.List.{List}
-use Prim.Native.Nat.{ℕ, ◌-◌}
+use Prim.Native.Nat.{ℕ}
 use native.Mathlib.Omega.{arith}
 use Rattle.packing.specs.Words.{words_of}
 use Rattle.twin.specs.Step.{chain_with, hop, hops_from}
