@@ -10,7 +10,6 @@ use Rattle.questions.specs.declared.question.Question.{Question}
 use Rattle.readings.specs.Reading.{number_of}
 use Rattle.judging.specs.Judge.{judge_of}
 use Rattle.judging.proofs.Accepted.{accepted_takes}
-use Rattle.acceptance.specs.Answer.{reading_of, handed_out}
 use Rattle.acceptance.proofs.AcceptedIsAnAnswer.{accepted_is_an_answer}
 use Rattle.acceptance.proofs.AnswerIsAccepted.{answer_is_accepted, accepted_reading}
 use Rattle.c_reader.specs.ReadBytes.{reading_on, ReadBytesDone}

@@ -8,14 +8,12 @@ use Rattle.remainder.specs.Turned.{turned, weight, Bytes}
 use Rattle.lines.specs.Write.{at_front}
 use Rattle.packing.specs.Words.{words_of, as_bytes}
 use Rattle.packing.proofs.Back.{length_bytes, length_words, bytes_back}
-use Rattle.questions.specs.Shape.{shape_of}
 use Rattle.questions.specs.declared.question.Question.{Question}
 use Rattle.questions.proofs.ByKind.{of_read}
 use Rattle.readings.specs.Reading.{number_of, values_taken}
 use Rattle.readings.specs.declared.Reading.TheVariants.{Values}
 use Rattle.judging.specs.Judge.{judge_of}
 use Rattle.reader.specs.Read.{values_on}
-use Rattle.acceptance.specs.Answer.{reading_of}
 use Rattle.acceptance.specs.Answer.Fitting.{read}
 use Rattle.c_reader.specs.ReadBytes.{reading_on, ReadBytesDone}
 use Rattle.promises.specs.ByNumber.{packed_number}

@@ -2,7 +2,7 @@
 use mathlib.Core.Path.{◌≡◌, refl, sym, ap, ◌∙◌, subst}
 use mathlib.Core.Bool.{Bool, true, false}
 use mathlib.Core.List.{List}
-use Prim.Native.Nat.{ℕ, ◌+◌, ◌*◌, ◌/◌, ◌%◌, ◌≤◌, ◌<◌, min}
+use Prim.Native.Nat.{ℕ, ◌+◌, ◌*◌, ◌/◌, ◌%◌, ◌≤◌, ◌<◌}
 use native.Mathlib.Omega.{arith}
 use lib.Dec.{eqb}
 use lib.ListN.{length}
@@ -10,10 +10,9 @@ use borrow.Author.Tests.{eqb-true, eqb-false, ne_eqb}
 use Rattle.packing.specs.Words.{line_on}
 use Rattle.packing.proofs.Back.{length_words}
 use Rattle.packing.proofs.Taken.{even_line}
-use Rattle.questions.specs.declared.question.Question.{Question}
 use Rattle.readings.specs.Reading.{refusal_number}
 use Rattle.readings.specs.declared.Refusal.{Refusal}
-use Rattle.reasons.specs.Reason.{found, reason_of, reason_number}
+use Rattle.reasons.specs.Reason.{found, reason_number}
 use Rattle.reasons.specs.declared.Field.TheVariants as field
 use Rattle.reasons.specs.declared.Spot.{Spot}
 use Rattle.reasons.specs.declared.Spot.TheVariants.{Asked, Whole, Word, Byte}
@@ -22,7 +21,7 @@ use Rattle.reasons.specs.declared.Right.TheVariants.{One, Several}
 use Rattle.reasons.specs.declared.Because.{Because}
 use Rattle.reasons.specs.declared.Reason.{Reason}
 use Rattle.reasons.specs.declared.Reason.TheVariants.{Accepted, TurnedAway}
-use Rattle.c_reasons.specs.Explain.{in_bytes, reason_on, is_one, right_of, sixteen, packed_because, packed_reason, packed_on}
+use Rattle.c_reasons.specs.Explain.{in_bytes, reason_on, is_one, right_of, sixteen, packed_because, packed_reason}
 use Rattle.promises.specs.CSideWhy.{RightParts, WhyParts, PackedAs, PackedWhy, CSideWhy}
 use Rattle.promises.proofs.WhyNumbers.{small_in_bytes}
 

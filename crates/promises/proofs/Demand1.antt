@@ -16,7 +16,6 @@ use Rattle.writing.specs.PutLine.{put_of, out_of, put_number, LinePut}
 use Rattle.writing.specs.declared.Put.{Put}
 use Rattle.writing.specs.declared.Put.TheVariants as put
 use Rattle.questions.specs.declared.question.Question.{Question}
-use Rattle.readings.specs.Reading.{number_of}
 use Rattle.readings.specs.Packed.{packed_reading}
 use Rattle.commands.specs.Command.{issued_of, issued_number}
 use Rattle.commands.specs.declared.Issued.{Issued}

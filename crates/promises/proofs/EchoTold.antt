@@ -3,10 +3,9 @@ use mathlib.Core.Path.{◌≡◌, refl, sym, ap, ◌∙◌, subst}
 use mathlib.Core.Bool.{Bool, true, false, cond}
 use mathlib.Core.Logic.{⊎_elim}
 use mathlib.Core.List.{List, [], ◌∷◌}
-use Prim.Native.Nat.{ℕ, zero, suc, ◌+◌, ◌/◌, ◌%◌, ◌≤◌, ◌<◌}
+use Prim.Native.Nat.{ℕ, zero, suc, ◌/◌, ◌%◌, ◌≤◌, ◌<◌}
 use native.Mathlib.Nat.{eq-zero-or-pos}
 use native.Mathlib.Omega.{arith}
-use lib.Dec.{eqb}
 use lib.ListN.{length, get_or}
 use borrow.Author.Tests.{eqb-true, eqb-false}
 use Rattle.ground.proofs.Test.{below_or_not, refuted}
@@ -17,11 +16,10 @@ use Rattle.questions.specs.Shape.{shape_of}
 use Rattle.questions.specs.declared.question.Question as asked
 use Rattle.questions.proofs.Good.{hello_shape, write_shape, read_shape}
 use Rattle.readings.specs.declared.Refusal.TheVariants.{Echo}
-use Rattle.reasons.specs.Reason.{at_byte, asked_byte, as_asked, echo_place, at_echo}
+use Rattle.reasons.specs.Reason.{at_byte, asked_byte, as_asked, at_echo}
 use Rattle.reasons.specs.declared.Right.TheVariants.{One}
 use Rattle.promises.specs.Rows.{echo}
 use Rattle.promises.specs.TellMeWhy.{Told}
-use Rattle.promises.proofs.RowsGiven.{never}
 use Rattle.promises.proofs.SpotsTold.{Early}
 
 -- ---- what an answer repeats, two bytes or four, of a list of four

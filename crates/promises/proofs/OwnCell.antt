@@ -9,7 +9,7 @@ use native.Mathlib.Omega.{arith}
 use lib.Dec.{eqb, leb, lit<}
 use lib.IntN.{ℤ}
 use lib.Ieee.{Float}
-use lib.ListN.{length, get_or}
+use lib.ListN.{get_or}
 use Rattle.packing.specs.Words.{word_at}
 use Rattle.cells.specs.Cell.{enabled, cell_of}
 use Rattle.cells.specs.Voltage.{voltage_of}

@@ -2,9 +2,8 @@
 use mathlib.Core.Path.{◌≡◌, refl, sym, ap, ◌∙◌, subst}
 use mathlib.Core.Bool.{Bool, true, false}
 use mathlib.Core.Logic.{◌⊎◌, inl, inr, ⊎_elim}
-use mathlib.Core.List.{List, [], ◌∷◌, get_last_d}
-use Prim.Native.Nat.{ℕ, zero, suc, ◌+◌, ◌*◌, ◌-◌, ◌/◌, ◌%◌, ◌≤◌, ◌<◌}
-use native.Mathlib.Nat.{eq-zero-or-pos}
+use mathlib.Core.List.{List, get_last_d}
+use Prim.Native.Nat.{ℕ, suc, ◌+◌, ◌*◌, ◌-◌, ◌%◌, ◌≤◌, ◌<◌}
 use native.Mathlib.Omega.{arith}
 use lib.Dec.{eqb, lit<}
 use lib.ListN.{length, get_or, take, drop, length-drop}
@@ -23,18 +22,16 @@ use Rattle.character_check.proofs.Pass.{preamble_character, stop_character}
 use Rattle.lines.specs.Line.{byte_at, bytes_of}
 use Rattle.lines.proofs.Between.{last_at}
 use Rattle.lines.proofs.Line.{byte_count, length_bytes, bytes_at}
-use Rattle.questions.specs.Question.{by_form}
 use Rattle.questions.specs.Shape.{shape_of}
 use Rattle.questions.specs.declared.question.Question as asked
-use Rattle.questions.proofs.ByKind.{of_hello, of_write, of_read}
 use Rattle.questions.proofs.Good.{hello_shape, write_shape, read_shape}
 use Rattle.readings.specs.Reading.{refusal_number}
 use Rattle.readings.specs.declared.Refusal.{Refusal}
-use Rattle.readings.specs.declared.Refusal.TheVariants.{Length, Character, Frame, Manchester, Echo, Pec, Alive, Check, Count}
-use Rattle.reasons.specs.Reason.{at_line, at_word, at_byte, last_place, at_ends, asked_byte, as_asked, echo_place, at_echo, at_pec, at_alive, at_check}
+use Rattle.readings.specs.declared.Refusal.TheVariants.{Length, Character, Frame, Manchester, Pec, Alive, Check, Count}
+use Rattle.reasons.specs.Reason.{at_line, at_word, at_byte, last_place, at_ends, at_pec, at_alive, at_check}
 use Rattle.reasons.specs.declared.Right.TheVariants.{One, Several}
 use Rattle.reasons.proofs.Told.{the_first_word, the_last_word}
-use Rattle.promises.specs.Rows.{echo, check_in, count_in, Lowest}
+use Rattle.promises.specs.Rows.{check_in, count_in, Lowest}
 use Rattle.promises.specs.TellMeWhy.{Passes, Told}
 use Rattle.promises.proofs.RowsGiven.{never}
 

@@ -1,7 +1,7 @@
 -- What is told is true: the rows before the reader's are not given, and so pass everywhere; the reader's is given, and each row's own law tells where.
 use mathlib.Core.Path.{◌≡◌, refl, sym, ap, ◌∙◌, subst}
 use mathlib.Core.Bool.{true}
-use mathlib.Core.Logic.{◌⊎◌, inl, inr, ⊎_elim}
+use mathlib.Core.Logic.{inl, inr, ⊎_elim}
 use mathlib.Core.List.{List}
 use Prim.Native.Nat.{ℕ, ◌+◌, ◌≤◌, ◌<◌, min}
 use native.Mathlib.Omega.{arith}
@@ -18,9 +18,7 @@ use Rattle.readings.specs.declared.Reading.{Reading}
 use Rattle.readings.specs.declared.Reading.TheVariants.{Counted, Written, Values, Refused}
 use Rattle.judging.specs.Judge.{judge_of}
 use Rattle.judging.proofs.Bounds.{room_enough, enough_room}
-use Rattle.reader.specs.Read.{ReadDone}
 use Rattle.reasons.specs.Reason.{because_of, reason_for, reason_of}
-use Rattle.reasons.specs.declared.Reason.{Reason}
 use Rattle.reasons.proofs.Told.{same_why}
 use Rattle.promises.specs.ByNumber.{NumberDue}
 use Rattle.promises.specs.Rows.{read_rows}

@@ -2,7 +2,7 @@
 -- written nothing into lent memory. Claimed of each call below, on all input: one answer and one content of the lent memory meet the call's
 -- contract, and no other; the answer has the number that is due by document 01's rows, in the order of their checks, and 0 where none is given;
 -- where it has a row's number, whichever row, the memory is as it was. (That a call comes to an end is part of its function's own check.)
-use Rattle.std.specs.Prelude.{◌≡◌, true, false, ◌⊎◌, List, [], ◌∷◌, ◌++◌, ℕ, suc, ◌/◌, ◌≤◌, ◌<◌, ℤ, Float, length, get_or, drop}
+use Rattle.std.specs.Prelude.{◌≡◌, false, ◌⊎◌, List, [], ◌∷◌, ◌++◌, ℕ, suc, ◌/◌, ◌≤◌, ◌<◌, ℤ, Float, length, get_or, drop}
 use Rattle.remainder.specs.Turned.{Bytes}
 use Rattle.pec.specs.Pec.{pec_of}
 use Rattle.lines.specs.Line.{line_of}
