@@ -45,7 +45,7 @@
  * and the twin of a long chain, are for processors with that much memory; the
  * others ask for a line, 280 bytes, and its values, 64.
  *
- * CODE. All calls together are 16 to 22 KB; the reader, the writer and the cells 7
+ * CODE. All calls together are 13 to 22 KB; the reader, the writer and the cells 7
  * to 10. A program that is linked with --gc-sections takes in what it calls.
  *
  * WHAT THE CALLER OWES, in every call:

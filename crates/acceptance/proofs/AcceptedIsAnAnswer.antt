@@ -6,6 +6,7 @@ use mathlib.Core.List.{List, [], ◌∷◌}
 use Prim.Native.Nat.{ℕ, ◌+◌, ◌*◌, ◌≤◌, ◌<◌}
 use native.Mathlib.Nat.{eq-zero-or-pos}
 use native.Mathlib.Omega.{arith}
+use Rattle.std.specs.Prelude.{Ok}
 use Rattle.ground.proofs.Test.{below_or_not}
 use Rattle.lines.specs.Line.{line_of, bytes_of}
 use Rattle.scanning.proofs.Whole.{own_bytes}
@@ -17,7 +18,7 @@ use Rattle.questions.proofs.Good.{good_kind, hello_shape, write_shape, read_shap
 use Rattle.contents.specs.Rows.{byte_in, taken_of}
 use Rattle.readings.specs.Reading.{number_of, values_taken}
 use Rattle.judging.specs.Judge.{judge_of}
-use Rattle.readings.specs.declared.Reading.TheVariants.{Counted, Written, Values}
+use Rattle.readings.specs.declared.Taken.TheVariants.{Counted, Written, Values}
 use Rattle.reader.specs.Read.{values_on}
 use Rattle.judging.proofs.Accepted.{Taken, taken_reads, accepted_takes}
 use Rattle.contents.proofs.RowLaws.{hello_taken, write_taken, read_taken}
@@ -42,7 +43,7 @@ module _ (q : Question) (line : List ℕ) (room : ℕ) (accepted : number_of (ju
   hello_answered e =
       let b = byte_in (bytes_of line) 2 in
       let right = right_count q line room taken e in
-      let reading : judge_of q line room ≡ Counted b = verdict ∙ sym (hello_taken q (bytes_of line) e) in
+      let reading : judge_of q line room ≡ Ok (Counted b) = verdict ∙ sym (hello_taken q (bytes_of line) e) in
       record {
         values = b ∷ [];
         answer = record {
@@ -57,7 +58,7 @@ module _ (q : Question) (line : List ℕ) (room : ℕ) (accepted : number_of (ju
   write_answered lo hi =
       let s = write_shape q lo hi in
       let words : (shape_of q).words ≡ 2 * (5 + q.alive) + 2 = omega (arith, s.words) in
-      let reading : judge_of q line room ≡ Written = verdict ∙ sym (write_taken q (bytes_of line) lo hi) in
+      let reading : judge_of q line room ≡ Ok Written = verdict ∙ sym (write_taken q (bytes_of line) lo hi) in
       record {
         values = [];
         answer = record { fitting = write lo hi refl; written = answer_line [] (5 + q.alive) words (write_bytes q line room taken lo hi) };
@@ -70,7 +71,7 @@ module _ (q : Question) (line : List ℕ) (room : ℕ) (accepted : number_of (ju
       let m = (shape_of q).values in
       let s = read_shape q lo in
       let words : (shape_of q).words ≡ 2 * (2 * m + 4 + q.alive) + 2 = omega (arith, s.words) in
-      let reading : judge_of q line room ≡ Values m = verdict ∙ sym (read_taken q (bytes_of line) lo) in
+      let reading : judge_of q line room ≡ Ok (Values m) = verdict ∙ sym (read_taken q (bytes_of line) lo) in
       record {
         values = values_on line m;
         answer = record {

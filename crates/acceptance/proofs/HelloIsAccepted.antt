@@ -6,6 +6,7 @@ use Prim.Native.Nat.{ℕ, ◌≤◌}
 use native.Mathlib.Omega.{arith}
 use lib.Dec.{lit<}
 use borrow.Author.Tests.{le-leb}
+use Rattle.std.specs.Prelude.{Ok}
 use Rattle.remainder.specs.Turned.{Bytes}
 use Rattle.lines.specs.Line.{line_of, bytes_of}
 use Rattle.lines.proofs.Line.{length_line, bytes_of_line}
@@ -16,7 +17,7 @@ use Rattle.questions.specs.declared.question.Question.{Question}
 use Rattle.questions.proofs.Good.{good_first, hello_shape}
 use Rattle.contents.specs.Rows.{byte_in, echoed, count_right}
 use Rattle.judging.specs.Judge.{judge_of}
-use Rattle.readings.specs.declared.Reading.TheVariants.{Counted}
+use Rattle.readings.specs.declared.Taken.TheVariants.{Counted}
 use Rattle.judging.proofs.Accepted.{Taken, taken_reads}
 use Rattle.contents.proofs.RowLaws
 use Rattle.acceptance.specs.Answer.{Sendable}
@@ -51,8 +52,8 @@ module _ (q : Question) (good : good_question q ≡ true) (s : Sendable q) (room
           count = ap (count_right q) own ∙ sym (RowLaws.hello_count q hello_bytes e) ∙ ap₂ ◌&&◌ (le-leb 1 count least) (le-leb count 32 most);
         }
 
-    pub hello_reads : judge_of q (line_of hello_bytes) room ≡ Counted count
+    pub hello_reads : judge_of q (line_of hello_bytes) room ≡ Ok (Counted count)
     unfolding hello_bytes
     hello_reads =
         taken_reads q (line_of hello_bytes) room hello_takes ∙ sym (RowLaws.hello_taken q (bytes_of (line_of hello_bytes)) e)
-        ∙ ap (λ (l : List ℕ). Counted (byte_in l 2)) own
+        ∙ ap (λ (l : List ℕ). Ok (Counted (byte_in l 2))) own

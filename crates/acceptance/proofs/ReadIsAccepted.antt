@@ -7,6 +7,7 @@ use native.Mathlib.Omega.{arith}
 use lib.Dec.{lit<}
 use lib.ListN.{length, get_or, length-append, get_or-append}
 use lib.Seq.{get_or_at}
+use Rattle.std.specs.Prelude.{Ok}
 use Rattle.remainder.specs.Turned.{Bytes}
 use Rattle.pec.specs.Pec.{pec_of}
 use Rattle.lines.specs.Line.{line_of, bytes_of}
@@ -19,7 +20,7 @@ use Rattle.questions.proofs.Wire.{length_wire}
 use Rattle.contents.specs.Rows.{byte_in, check_byte}
 use Rattle.judging.specs.Judge.{judge_of}
 use Rattle.reader.specs.Read.{values_in, values_on}
-use Rattle.readings.specs.declared.Reading.TheVariants.{Values}
+use Rattle.readings.specs.declared.Taken.TheVariants.{Values}
 use Rattle.judging.proofs.Accepted.{Taken, taken_reads}
 use Rattle.contents.proofs.RowLaws
 use Rattle.acceptance.specs.Answer.{Registers, Sendable}
@@ -75,7 +76,7 @@ module _ (q : Question) (good : good_question q ≡ true) (s : Sendable q) (room
         takes q good s room enough (omega arith) read_covered_lem read_are_bytes read_len words
         (sym (RowLaws.read_echo q read_sealed refl lo refl)) check_clear
 
-    pub read_reads : judge_of q read_line room ≡ Values (shape_of q).values
+    pub read_reads : judge_of q read_line room ≡ Ok (Values (shape_of q).values)
     read_reads = taken_reads q read_line room read_takes ∙ sym (RowLaws.read_taken q (bytes_of read_line) lo)
 
     own_bytes : bytes_of read_line ≡ read_sealed

@@ -7,6 +7,7 @@ use native.Mathlib.Omega.{arith}
 use lib.Dec.{lit<}
 use lib.ListN.{length, get_or, take, drop, length-take, length-drop, get_or-append}
 use lib.Seq.{get_or-take, get_or-drop}
+use Rattle.std.specs.Prelude.{Result}
 use Rattle.characters.specs.Nibble.{true_bits}
 use Rattle.lines.specs.Line.{byte_at, bytes_of}
 use Rattle.lines.proofs.Line.{length_bytes, bytes_at}
@@ -19,7 +20,8 @@ use Rattle.judging.specs.Judge.{judge_of}
 use Rattle.reader.specs.Read.{values_on, ReadDone}
 use Rattle.reader.proofs.Values.{value_at, handed_number}
 use Rattle.parts.specs.Part.{order_of, values_found, start_of, part_of}
-use Rattle.readings.specs.declared.Reading.{Reading}
+use Rattle.readings.specs.declared.Refusal.{Refusal}
+use Rattle.readings.specs.declared.Taken.{Taken}
 use Rattle.judging.proofs.Accepted.{some_values}
 use Rattle.judging.proofs.Bounds.{enough_room}
 use Rattle.parts.proofs.Part.{found_carried, inside, part_there}
@@ -60,7 +62,7 @@ module _ (q : Question) (line : List ℕ) (a : ℕ) (some : 0 < values_found q l
       ∙ omega (arith, (inside q line a some put_to).within, length-drop start line)
 
 -- After a `read` that handed out values, the output holds at a device's place what the second call's part says.
-pub second_call_agrees : (q : Question) (line before after : List ℕ) (r : Reading) → ReadDone q line before after r → 0 < values_taken r
+pub second_call_agrees : (q : Question) (line before after : List ℕ) (r : Result Taken Refusal) → ReadDone q line before after r → 0 < values_taken r
     → (a : ℕ) → covers q a ≡ true → get_or after (order_of q a) 0 ≡ part_value (part_of q line a)
 second_call_agrees q line before after r done some a put_to =
     let verdict = judge_of q line (length before) in

@@ -6,6 +6,7 @@ use Prim.Native.Nat.{ℕ, ◌+◌, ◌*◌, ◌/◌, ◌%◌, ◌≤◌}
 use native.Mathlib.Omega.{arith}
 use lib.ListN.{length}
 use borrow.Author.Tests.{eq-eqb}
+use Rattle.std.specs.Prelude.{Ok}
 use Rattle.remainder.specs.Turned.{Bytes}
 use Rattle.lines.specs.Line.{line_of, bytes_of}
 use Rattle.questions.specs.Question.{good_question}
@@ -14,7 +15,7 @@ use Rattle.questions.specs.Bytes.{low_high, sealed, write_covered}
 use Rattle.questions.specs.declared.question.Question.{Question}
 use Rattle.questions.proofs.Good.{good_first, write_shape}
 use Rattle.judging.specs.Judge.{judge_of}
-use Rattle.readings.specs.declared.Reading.TheVariants.{Written}
+use Rattle.readings.specs.declared.Taken.TheVariants.{Written}
 use Rattle.judging.proofs.Accepted.{Taken, taken_reads}
 use Rattle.contents.proofs.RowLaws
 use Rattle.acceptance.specs.Answer.{Sendable}
@@ -42,5 +43,5 @@ module _ (q : Question) (good : good_question q ≡ true) (s : Sendable q) (room
         ∙ ap₂ ◌&&◌ (eq-eqb (q.value % 256) (q.value % 256) refl) (eq-eqb (q.value / 256) (q.value / 256) refl))
         (sym (RowLaws.no_check q (sealed q (shape_of q).acting (write_covered q)) hi))
 
-    pub write_reads : judge_of q write_line room ≡ Written
+    pub write_reads : judge_of q write_line room ≡ Ok Written
     write_reads = taken_reads q write_line room write_takes ∙ sym (RowLaws.write_taken q (bytes_of write_line) lo hi)

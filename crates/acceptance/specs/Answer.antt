@@ -1,5 +1,5 @@
 -- The right answers to a question (document 01, "Commands and answers", and what demand 2 says of acceptance).
-use Rattle.std.specs.Prelude.{◌≡◌, List, [], ◌∷◌, ℕ, ◌≤◌, ◌<◌, length, get_or}
+use Rattle.std.specs.Prelude.{◌≡◌, List, [], ◌∷◌, ℕ, ◌≤◌, ◌<◌, length, get_or, Result, Ok}
 use Rattle.lines.specs.Line.{line_of}
 use Rattle.questions.specs.Question.{hello_all, write_all, write_device, read_all, read_device, by_form}
 use Rattle.questions.specs.Shape.{shape_of}
@@ -8,8 +8,9 @@ use Rattle.questions.specs.declared.question.Question.{Question}
 use Rattle.readings.specs.Reading.{values_taken}
 use Rattle.judging.specs.Judge.{judge_of}
 use Rattle.reader.specs.Read.{values_on}
-use Rattle.readings.specs.declared.Reading.{Reading}
-use Rattle.readings.specs.declared.Reading.TheVariants.{Counted, Written, Values}
+use Rattle.readings.specs.declared.Refusal.{Refusal}
+use Rattle.readings.specs.declared.Taken.{Taken}
+use Rattle.readings.specs.declared.Taken.TheVariants.{Counted, Written, Values}
 
 -- every number of the list is a register's value
 abbrev pub Registers : List ℕ → Type 0
@@ -39,8 +40,8 @@ pub record AnswerTo (q : Question) (values line : List ℕ) : Type 0 where
   pub written : line ≡ line_of (answer_bytes q values 0)
 
 -- the reading of a right answer, and the values that it hands out
-abbrev pub reading_of : Question → List ℕ → Reading
-reading_of q values = by_form q.kind (Counted (get_or values 0 0)) Written (Values (shape_of q).values)
+abbrev pub reading_of : Question → List ℕ → Result Taken Refusal
+reading_of q values = by_form q.kind (Ok (Counted (get_or values 0 0))) (Ok Written) (Ok (Values (shape_of q).values))
 
 abbrev pub handed_out : Question → List ℕ → List ℕ
 handed_out q values = by_form q.kind [] [] values

@@ -21,7 +21,9 @@ use c_parts::part_bytes;
 use c_reader::read_bytes;
 use c_reasons::explain_packed;
 use c_twin::{power_on_bytes, run_bytes, step_bytes};
-use certificate::{Certified, certify};
+use certificate::certify;
+use jobs::FileRefusal;
+use numbers::TurnedAway;
 use pec::pec;
 use questions::question::ask;
 
@@ -150,13 +152,12 @@ pub fn bmc_pec(bytes: &[u8]) -> u32
     pec(bytes) as u32
 }
 
-fn packed_certified(certified: Certified) -> u32
+fn packed_certified(certified: Result<usize, FileRefusal>) -> u32
     requires { bytes_written certified ≤ most_text }
     ensures { result ≡ packed_certified certified }
 {
     match certified {
-        Certified::Bytes(n) => 256 * n as u32,
-        Certified::File => 14,
-        Certified::Room => 2,
+        Ok(n) => 256 * n as u32,
+        Err(why) => why.number() as u32,
     }
 }

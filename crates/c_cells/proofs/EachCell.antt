@@ -18,38 +18,25 @@ use Rattle.lines.proofs.LeftBy.{left_written}
 use Rattle.packing.specs.Words.{words_of, word_at}
 use Rattle.packing.proofs.Back.{length_words, word_of}
 use Rattle.cells.specs.Cell.{cell_of, cells_from, cells_of}
+use Rattle.cells.specs.declared.Cell.{Cell}
+use Rattle.cells.specs.declared.Cell.TheVariants.{NotMeasured}
+use Rattle.cells.specs.Voltage.{range_number}
 use Rattle.cells.specs.declared.Range.{Range}
 use Rattle.cells.specs.declared.Range.TheVariants.{Unipolar, Bipolar}
 use Rattle.cells.specs.declared.Register.{Register}
-use Rattle.cells.specs.declared.Cell.{Cell}
-use Rattle.cells.specs.declared.Cell.TheVariants.{NotMeasured}
-use Rattle.c_cells.specs.CellBytes.{microvolts_or, volts_or, CellGiven, by_range, CellDone}
+use Rattle.cells.proofs.EachRegister.{cells_number_lem, cell_at}
+use Rattle.c_cells.specs.CellBytes.{microvolts_or, volts_or, CellGiven, CellDone}
 use Rattle.c_cells.specs.CellsBytes.{register, registers_of, room_number, cells_number, cells_read, by_cell, packed_or, CellsGiven, CellsDone}
-use Rattle.c_cells.proofs.Named.{is_unipolar, is_bipolar, is_neither, unipolar_done, bipolar_done}
+use Rattle.c_cells.proofs.Named.{is_named, is_neither, named_done}
 use Rattle.c_cells.proofs.Numbered.{short_microvolts, short_volts, short_answers, other_length}
 
 -- ---- the k-th of a list
 
--- a cell for each register
-pub cells_number_lem : (range : Range) (mask c : ℕ) (registers : List Register) → length (cells_from range mask c registers) ≡ length registers
-cells_number_lem range mask c [] = refl
-cells_number_lem range mask c (register ∷ registers) = ap suc (cells_number_lem range mask (c + 1) registers)
-
--- and by it
-pub cell_at : (range : Range) (mask c : ℕ) (registers : List Register) (k : ℕ) (none : Cell) (nothing : Register) → k < length registers
-    → get_or (cells_from range mask c registers) k none ≡ cell_of range mask (c + k) (get_or registers k nothing).0
-cell_at range mask c [] k none nothing h = absurd (not-suc-le-zero h)
-cell_at range mask c (register ∷ registers) zero none nothing h =
-    let same : c ≡ c + 0 = omega arith in ap (λ (x : ℕ). cell_of range mask x register.0) same
-cell_at range mask c (register ∷ registers) (suc k) none nothing h =
-    let same : c + 1 + k ≡ c + suc k = omega arith in
-    cell_at range mask (c + 1) registers k none nothing (le_of_suc-le-suc h) ∙ ap (λ (x : ℕ). cell_of range mask x (get_or registers k nothing).0) same
-
-registers_number : (words : List ℕ) → length (map register words) ≡ length words
+pub registers_number : (words : List ℕ) → length (map register words) ≡ length words
 registers_number [] = refl
 registers_number (w ∷ words) = ap suc (registers_number words)
 
-register_at : (words : List ℕ) (k : ℕ) (nothing : Register) → k < length words → (get_or (map register words) k nothing).0 ≡ get_or words k 0
+pub register_at : (words : List ℕ) (k : ℕ) (nothing : Register) → k < length words → (get_or (map register words) k nothing).0 ≡ get_or words k 0
 register_at [] k nothing h = absurd (not-suc-le-zero h)
 register_at (w ∷ words) zero nothing h = refl
 register_at (w ∷ words) (suc k) nothing h = register_at words k nothing (le_of_suc-le-suc h)
@@ -129,21 +116,18 @@ module _ (enabled : ℕ) (registers : List ℕ) (m m' : List ℤ) (v v' : List F
   unfolding cells_number cells_read
   own_done bipolar r done accepted = by_tests (eqb bipolar 0) refl (eqb bipolar 1) refl
     where
-      of : (range : Range) → ((A : Type 0) (named : Range → A) (none : A) → by_range bipolar named none ≡ named range)
-          → CellGiven (cell_of range enabled (suc k) (word_at registers k)) (get_or m k nothing) (get_or m' k nothing) (get_or v k no_volts) (get_or v' k no_volts) (get_or a' k 0)
+      of : (range : Range) → range_number range ≡ bipolar
+          → CellDone (suc k) enabled (word_at registers k) bipolar (get_or m k nothing) (get_or m' k nothing) (get_or v k no_volts) (get_or v' k no_volts) (get_or a' k 0)
       of range is =
-          own_given range (cells_number bipolar registers m v a) r accepted
-          (lent registers m v a (sym (is ℕ (λ (range : Range). room_number registers m v a) 1) ∙ accepted))
+          named_done (suc k) enabled (word_at registers k) bipolar _ _ _ _ _ range _ is refl
+          (own_given range (cells_number bipolar registers m v a) r accepted
+          (lent registers m v a (sym (is_named bipolar (λ (range : Range). room_number registers m v a) 1 range is) ∙ accepted))
           (subst (λ (cells : List Cell). CellsGiven (cells_number bipolar registers m v a) cells m m' v v' a a' r)
-          (is (List Cell) (λ (range : Range). cells_of range enabled (registers_of registers)) []) done)
+          (is_named bipolar (λ (range : Range). cells_of range enabled (registers_of registers)) [] range is) done))
 
       by_tests : (uni : Bool) → eqb bipolar 0 ≡ uni → (bi : Bool) → eqb bipolar 1 ≡ bi
           → CellDone (suc k) enabled (word_at registers k) bipolar (get_or m k nothing) (get_or m' k nothing) (get_or v k no_volts) (get_or v' k no_volts) (get_or a' k 0)
-      by_tests true u bi b =
-          let is = eqb-true bipolar 0 u in
-          unipolar_done (suc k) enabled (word_at registers k) bipolar _ _ _ _ _ _ is refl (of Unipolar (λ A named none. is_unipolar bipolar named none is))
-      by_tests false u true b =
-          let is = eqb-true bipolar 1 b in
-          bipolar_done (suc k) enabled (word_at registers k) bipolar _ _ _ _ _ _ is refl (of Bipolar (λ A named none. is_bipolar bipolar named none is))
+      by_tests true u bi b = of Unipolar (sym (eqb-true bipolar 0 u))
+      by_tests false u true b = of Bipolar (sym (eqb-true bipolar 1 b))
       by_tests false u false b =
           absurd (omega (arith, accepted, is_neither bipolar (λ (range : Range). room_number registers m v a) 1 (eqb-false bipolar 0 u) (eqb-false bipolar 1 b)))

@@ -3,9 +3,9 @@ use Rattle.std.specs.Prelude.{◌≡◌, cond, ◌&&◌, List, [], ◌∷◌, ma
 use Rattle.lines.specs.Write.{left_by}
 use Rattle.packing.specs.Words.{words_of}
 use Rattle.cells.specs.Cell.{cells_of}
+use Rattle.cells.specs.declared.Cell.{Cell}
 use Rattle.cells.specs.declared.Range.{Range}
 use Rattle.cells.specs.declared.Register.{Register}
-use Rattle.cells.specs.declared.Cell.{Cell}
 use Rattle.c_cells.specs.CellBytes.{packed_cell, microvolts_or, volts_or, by_range}
 
 -- the registers of some bytes, two bytes each, low first

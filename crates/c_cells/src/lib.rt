@@ -8,9 +8,10 @@ ghost use Rattle.c_cells.specs.CellBytes.{microvolts_or, volts_or, CellGiven, Ce
 ghost use Rattle.c_cells.specs.CellsBytes.{registers_of, room_number, packed_or, by_cell, CellsGiven, CellsDone};
 
 use all_cells::read_cells;
-use cell_numbers::refusal_number;
 use cells::{Cell, Range, Register, read_cell};
+use numbers::TurnedAway;
 use packing::join;
+use std::array;
 
 // QUESTION for a range that is neither unipolar (0) nor bipolar (1); then as a cell is read. The lent numbers are written where it was measured.
 pub fn cell_into(
@@ -23,21 +24,14 @@ pub fn cell_into(
 ) -> u32
     ensures { CellDone cell enabled register bipolar microvolts.old microvolts.new volts.old volts.new result }
 {
-    if bipolar == 0 {
-        return give(
-            read_cell(Range::Unipolar, enabled, cell, Register(register)),
-            microvolts,
-            volts,
-        );
-    }
-    if bipolar == 1 {
-        return give(
-            read_cell(Range::Bipolar, enabled, cell, Register(register)),
-            microvolts,
-            volts,
-        );
-    }
-    1
+    let Ok(range) = Range::try_from(bipolar) else {
+        return 1;
+    };
+    give(
+        read_cell(range, enabled, cell, Register(register)),
+        microvolts,
+        volts,
+    )
 }
 
 // A cell's answer packed; its voltage, where it was measured, into the lent numbers.
@@ -53,7 +47,7 @@ fn give(answer: Cell, microvolts: &mut i32, volts: &mut f32) -> u32
             256
         }
         Cell::NotMeasured => 0,
-        Cell::Refused(why) => refusal_number(why) as u32,
+        Cell::Refused(why) => why.number() as u32,
     }
 }
 
@@ -69,27 +63,10 @@ pub fn cells_into(
 ) -> u32
     ensures { CellsDone enabled bipolar registers.now microvolts.old microvolts.new volts.old volts.new answers.old answers.new result }
 {
-    if bipolar == 0 {
-        return cells_by(
-            Range::Unipolar,
-            enabled,
-            registers,
-            microvolts,
-            volts,
-            answers,
-        );
-    }
-    if bipolar == 1 {
-        return cells_by(
-            Range::Bipolar,
-            enabled,
-            registers,
-            microvolts,
-            volts,
-            answers,
-        );
-    }
-    1
+    let Ok(range) = Range::try_from(bipolar) else {
+        return 1;
+    };
+    cells_by(range, enabled, registers, microvolts, volts, answers)
 }
 
 // The same by the range that is named.
@@ -125,14 +102,11 @@ fn registers_in(bytes: &[u8]) -> [Register; 12]
     requires { length bytes.now ≡ 24 }
     ensures { result ≡ registers_of bytes.now }
 {
-    let mut registers = [Register(0); 12];
-    for k in 0..12 {
-        registers[k] = Register(join(bytes[2 * k], bytes[2 * k + 1]));
-    }
-    registers
+    array::from_fn(|k| Register(join(bytes[2 * k], bytes[2 * k + 1])))
 }
 
-// Each cell's answer and voltage into its own place of the lent memory.
+// Each cell's answer and voltage into its own place of the lent memory. One index into an array and three slices: four iterators zipped are no
+// plainer.
 fn give_all(cells: [Cell; 12], microvolts: &mut [i32], volts: &mut [f32], answers: &mut [u32])
     requires { (12 ≤ length microvolts.old) × (12 ≤ length volts.old) × (12 ≤ length answers.old) }
     ensures { (microvolts.new ≡ by_cell microvolts_or cells microvolts.old) × (volts.new ≡ by_cell volts_or cells volts.old) × (answers.new ≡ by_cell packed_or cells answers.old) }

@@ -19,23 +19,24 @@ use Rattle.questions.specs.declared.question.Question.{Question}
 use Rattle.questions.specs.declared.question.Shape.{Shape}
 use Rattle.questions.proofs.Bytes.{length_pairs}
 use Rattle.commands.specs.Command.{command_line, issued_of, issued_number}
+use Rattle.commands.specs.Command as command
 use Rattle.heads.specs.Head.{head_of}
 use Rattle.heads.specs.declared.Head.{Head}
-use Rattle.commands.specs.declared.Issued.{Issued}
-use Rattle.commands.specs.declared.Issued.TheVariants as issued
+use Rattle.std.specs.Prelude.{Result, Ok, Err}
+use Rattle.commands.specs.declared.CommandRefusal.{CommandRefusal}
 use Rattle.heads.proofs.Taken.{head_taken}
 use Rattle.commands.proofs.Issuing.{issued_bad, issued_good, issued_short}
 use Rattle.acceptance.proofs.Lengths.{command_words}
 use Rattle.c_commands.specs.CommandBytes.{packed_issued, laid, CommandBytesDone}
 
 module _ (q : Question) (out : List ℕ) where
-  answered : (i : Issued) (after : List ℕ) (r : ℕ) → issued_of q (length out / 2) ≡ i → r ≡ packed_issued i
+  answered : (i : Result ℕ CommandRefusal) (after : List ℕ) (r : ℕ) → issued_of q (length out / 2) ≡ i → r ≡ packed_issued i
       → after ≡ left_by (issued_number i) (at_front (as_bytes (command_line q)) out) out → CommandBytesDone q out after r
   answered i after r e says leaves =
-      record { says = says ∙ sym (ap packed_issued e); leaves = leaves ∙ sym (ap (λ (i : Issued). left_by (issued_number i) (at_front (as_bytes (command_line q)) out) out) e) }
+      record { says = says ∙ sym (ap packed_issued e); leaves = leaves ∙ sym (ap (λ (i : Result ℕ CommandRefusal). left_by (issued_number i) (at_front (as_bytes (command_line q)) out) out) e) }
 
   pub bad_question : good_question q ≡ false → CommandBytesDone q out out 1
-  bad_question bad = answered issued.Question out 1 (issued_bad q (length out / 2) bad) refl refl
+  bad_question bad = answered (Err command.bad_question) out 1 (issued_bad q (length out / 2) bad) refl refl
 
   module _ (good : good_question q ≡ true) (s : Shape) (shape : s ≡ shape_of q) where
     words_are : length (command_line q) ≡ s.words
@@ -45,7 +46,7 @@ module _ (q : Question) (out : List ℕ) where
     few_words = omega (arith, ap (λ (s : Shape). s.words) shape, words_most q good)
 
     pub no_room : length out / 2 < s.words → CommandBytesDone q out out 2
-    no_room less = answered issued.Room out 2 (issued_short q (length out / 2) good (omega (arith, words_are))) refl refl
+    no_room less = answered (Err command.room) out 2 (issued_short q (length out / 2) good (omega (arith, words_are))) refl refl
 
     -- the command's bytes as they are laid out
     module _ (small : q.seed < 256) (h : Head) (head : h ≡ head_of q) where
@@ -60,7 +61,7 @@ module _ (q : Question) (out : List ℕ) where
       pub command_laid : (after : List ℕ) → s.words ≤ length out / 2 → after ≡ laid out 0 (line_of (take h.count h.bytes ++ fill_pairs s.values))
           → CommandBytesDone q out after (65536 * s.words)
       command_laid after room is =
-          answered (issued.Words (length (command_line q))) after (65536 * s.words) (issued_good q (length out / 2) good (omega (arith, words_are)))
+          answered (Ok (length (command_line q))) after (65536 * s.words) (issued_good q (length out / 2) good (omega (arith, words_are)))
           (omega (arith, words_are))
           (is ∙ ap (λ (l : List ℕ). laid out 0 (line_of l)) whole
           ∙ sets_front (as_bytes (command_line q)) out (omega (arith, words_are, length_bytes (command_line q))))

@@ -12,7 +12,8 @@ use characters::{PREAMBLE, STOP};
 use heads::head_of;
 use questions::question::{Question, is_good, shape_of};
 
-// The command at the front of the lent bytes, the rest as it was; turned away, no byte is written. An odd last byte counts for no room.
+// The command at the front of the lent bytes, the rest as it was; turned away, no byte is written. An odd last byte counts for no room. The
+// answer is one packed number, as C takes it.
 pub fn command_bytes(q: Question, out: &mut [u8]) -> u32
     ensures { CommandBytesDone q out.old out.new result }
 {
@@ -25,10 +26,8 @@ pub fn command_bytes(q: Question, out: &mut [u8]) -> u32
         return 2;
     }
     let head = head_of(q);
-    let bytes = head.bytes;
-    let count = head.count;
     let pairs = shape.values;
-    lay_line(&bytes[..count], pairs, out);
+    lay_line(head.taken(), pairs, out);
     65536 * words as u32
 }
 
@@ -49,10 +48,8 @@ fn lay_bytes(bytes: &[u8], out: &mut [u8])
     requires { 4 * length bytes.now + 2 ≤ length out.old }
     ensures { out.new ≡ laid out.old 2 (characters_of bytes.now) }
 {
-    let mut i = 0;
-    while i < bytes.len() {
-        lay_byte(out, 4 * i + 2, bytes[i]);
-        i += 1;
+    for (i, &byte) in bytes.iter().enumerate() {
+        lay_byte(out, 4 * i + 2, byte);
     }
 }
 
@@ -81,8 +78,9 @@ fn lay_word(out: &mut [u8], at: usize, word: u16)
     requires { at + 2 ≤ length out.old }
     ensures { out.new ≡ laid out.old at (word ∷ []) }
 {
-    out[at] = (word % 256) as u8;
-    out[at + 1] = (word / 256) as u8;
+    let [low, high] = word.to_le_bytes();
+    out[at] = low;
+    out[at + 1] = high;
 }
 
 // So many fill pairs, from a place on.
@@ -90,10 +88,8 @@ fn lay_pairs(out: &mut [u8], start: usize, pairs: usize)
     requires { (pairs ≤ 32) × (start + 8 * pairs ≤ length out.old) }
     ensures { out.new ≡ laid out.old start (characters_of (fill_pairs pairs)) }
 {
-    let mut k = 0;
-    while k < pairs {
+    for k in 0..pairs {
         lay_pair(out, start + 8 * k);
-        k += 1;
     }
 }
 

@@ -2,6 +2,7 @@
 use mathlib.Core.Path.{◌≡◌, sym, ap, ◌∙◌}
 use mathlib.Core.Logic.{⊎_elim}
 use mathlib.Core.List.{List, []}
+use Rattle.std.specs.Prelude.{Some}
 use Prim.Native.Nat.{ℕ, ◌≤◌, ◌<◌}
 use native.Mathlib.Nat.{eq-zero-or-pos}
 use native.Mathlib.Omega.{arith}
@@ -12,8 +13,8 @@ use Rattle.questions.proofs.Good.{words_most}
 use Rattle.questions.specs.Shape.{shape_of}
 use Rattle.questions.specs.declared.question.Question.{Question}
 use Rattle.judging.proofs.Accepted.{some_values}
-use Rattle.parts.specs.Part.{start_of}
-use Rattle.parts.proofs.Part.{starts, part_at}
+use Rattle.parts.specs.Part.{start_of, place_found}
+use Rattle.parts.proofs.Part.{starts, part_at, place_at, no_start_no_place}
 use Rattle.c_parts.specs.PartBytes.{packed_start, part_in}
 
 -- the words at the front of the lent ones are the line
@@ -25,6 +26,10 @@ module _ (q : Question) (device : ℕ) where
   pub start_most : (line : List ℕ) → start_of q line device ≤ 140
   start_most line =
       ⊎_elim (λ none. omega arith) (λ some. omega (arith, (part_at q line device some).near)) (eq-zero-or-pos (start_of q line device))
+
+  -- and so does a place that is found
+  pub place_most : (line : List ℕ) (start : ℕ) → place_found q line device ≡ Some start → start ≤ 140
+  place_most line start e = omega (arith, (place_at q line device start e).is, start_most line)
 
   empty_has_none : start_of q [] device ≡ 0
   empty_has_none =
@@ -38,12 +43,13 @@ module _ (q : Question) (device : ℕ) where
       (eq-zero-or-pos (start_of q line device))
 
   -- so the part of what is taken is the part of the whole
-  pub part_of_taken : (bytes : List ℕ) → packed_start (start_of q (line_in 140 bytes) device) ≡ part_in q device bytes
+  pub part_of_taken : (bytes : List ℕ) → packed_start (place_found q (line_in 140 bytes) device) ≡ part_in q device bytes
   unfolding part_in
   part_of_taken bytes =
       ap packed_start
       (⊎_elim
-      (λ (whole : line_in 140 bytes ≡ line_on bytes). ap (λ (l : List ℕ). start_of q l device) whole)
+      (λ (whole : line_in 140 bytes ≡ line_on bytes). ap (λ (l : List ℕ). place_found q l device) whole)
       (λ (none : (line_in 140 bytes ≡ []) × (140 < length (line_on bytes))).
-      ap (λ (l : List ℕ). start_of q l device) none.0 ∙ empty_has_none ∙ sym (too_long_has_none (line_on bytes) none.1))
+      ap (λ (l : List ℕ). place_found q l device) none.0 ∙ no_start_no_place q [] device empty_has_none
+      ∙ sym (no_start_no_place q (line_on bytes) device (too_long_has_none (line_on bytes) none.1)))
       (whole_or_none 140 bytes))

@@ -11,6 +11,7 @@ use lib.Dec.{leb}
 use lib.ListN.{length, take, drop}
 use lib.Seq.{sets, take_at, take-append-le}
 use borrow.Author.Tests.{ne_eqb}
+use Rattle.std.specs.Prelude.{Result}
 use Rattle.lines.specs.Write.{at_front}
 use Rattle.packing.specs.Words.{as_bytes, line_on, line_in}
 use Rattle.packing.proofs.Taken.{whole_or_none, packed_front}
@@ -20,7 +21,8 @@ use Rattle.questions.specs.Shape.{shape_of}
 use Rattle.questions.specs.declared.question.Question as asked
 use Rattle.readings.specs.Reading.{values_taken}
 use Rattle.readings.specs.Packed.{packed_reading}
-use Rattle.readings.specs.declared.Reading.{Reading}
+use Rattle.readings.specs.declared.Refusal.{Refusal}
+use Rattle.readings.specs.declared.Taken.{Taken}
 use Rattle.judging.specs.Judge.{screen_rows, rows_of, judge_of}
 use Rattle.judging.proofs.Accepted.{values_fit, some_values}
 use Rattle.judging.proofs.Bounds.{room_enough}
@@ -80,7 +82,7 @@ values_number q line out = handed_number q (line_on line) (length out / 2)
 
 -- ---- the whole call
 
-module _ (q : asked.Question) (line out : List ℕ) (room : ℕ) (is_room : room ≡ min (length out / 2) 32) (taken_line blank part : List ℕ) (reading : Reading)
+module _ (q : asked.Question) (line out : List ℕ) (room : ℕ) (is_room : room ≡ min (length out / 2) 32) (taken_line blank part : List ℕ) (reading : Result Taken Refusal)
     (is_line : taken_line ≡ line_in 140 line) (size : length blank ≡ room) (done : ReadDone q taken_line blank part reading) where
   pub says_so : reading ≡ reading_on q line out
   unfolding reading_on
@@ -102,7 +104,7 @@ module _ (q : asked.Question) (line out : List ℕ) (room : ℕ) (is_room : room
       let values = values_on (line_on line) (values_taken (reading_on q line out)) in
       let many : length values ≡ m = values_number q line out ∙ sym same in
       let stands : part ≡ at_front (values_on taken_line m) blank =
-      done.leaves ∙ ap (λ (x : Reading). at_front (values_on taken_line (values_taken x)) blank) (sym done.says) in
+      done.leaves ∙ ap (λ (x : Result Taken Refusal). at_front (values_on taken_line (values_taken x)) blank) (sym done.says) in
       let given : values_on taken_line m ≡ values =
       ap₂ values_on is_line same ∙ values_read in
       let front : take m (part ++ rest) ≡ values =

@@ -2,7 +2,7 @@
 // answer is packed into one number.
 #![tactic(auto)]
 
-ghost use Rattle.std.specs.Prelude.{◌≡◌, ◌/◌, min};
+ghost use Rattle.std.specs.Prelude.{◌≡◌};
 ghost use Rattle.c_reader.specs.ReadBytes.{ReadBytesDone};
 
 use packing::{pack, take_line};
@@ -17,17 +17,10 @@ pub fn read_bytes(q: Question, line: &[u8], out: &mut [u8]) -> u32
     let mut words: [u16; 140] = [0; 140];
     let count = take_line(line, &mut words);
     let mut values: [u16; 32] = [0; 32];
-    let room = room_in(out.len());
+    // No answer has more than 32 values; an odd last byte counts for no room.
+    let room = (out.len() / 2).min(32);
     let reading = read(q, &words[..count], &mut values[..room]);
     let taken = values_taken(reading);
     pack(&values[..taken], out);
     packed_reading(reading)
-}
-
-// No answer has more than 32 values; an odd last byte counts for no room.
-fn room_in(bytes: usize) -> usize
-    ensures { result ≡ min (bytes / 2) 32 }
-{
-    let values = bytes / 2;
-    if values < 32 { values } else { 32 }
 }

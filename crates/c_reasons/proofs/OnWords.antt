@@ -9,6 +9,7 @@ use native.Mathlib.Omega.{arith}
 use lib.Dec.{leb}
 use lib.ListN.{length}
 use borrow.Author.Tests.{ne_eqb}
+use Rattle.std.specs.Prelude.{Option, Some, None}
 use Rattle.packing.specs.Words.{line_on, line_in}
 use Rattle.packing.proofs.Taken.{whole_or_none}
 use Rattle.questions.specs.Question.{good_question}
@@ -19,8 +20,6 @@ use Rattle.judging.specs.Judge.{screen_rows, rows_of, judge_of}
 use Rattle.reasons.specs.Reason.{reason_of}
 use Rattle.reasons.specs.declared.Spot.{Spot}
 use Rattle.reasons.specs.declared.Spot.TheVariants.{Asked, Whole, Word, Byte}
-use Rattle.reasons.specs.declared.Right.{Right}
-use Rattle.reasons.specs.declared.Right.TheVariants.{One, Several}
 use Rattle.c_reasons.specs.Explain.{in_bytes, reason_on, how_placed, is_one}
 
 -- a line that no answer has the length of is told as no line at all
@@ -64,6 +63,6 @@ how_most Whole = omega arith
 how_most (Word i) = omega arith
 how_most (Byte i) = omega arith
 
-pub one_most : (right : Right) → is_one right ≤ 1
-one_most (One x) = omega arith
-one_most Several = omega arith
+pub one_most : (right : Option ℕ) → is_one right ≤ 1
+one_most (Some x) = omega arith
+one_most None = omega arith

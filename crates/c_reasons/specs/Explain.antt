@@ -1,5 +1,5 @@
 -- Why an answer is turned away, over bytes (document 02, M-101; document 01, "The C side").
-use Rattle.std.specs.Prelude.{List, ℕ, ◌+◌, ◌*◌, min, length}
+use Rattle.std.specs.Prelude.{List, ℕ, ◌+◌, ◌*◌, min, length, Result, Ok, Err, Option, Some, None}
 use Rattle.packing.specs.Words.{line_on}
 use Rattle.questions.specs.Shape.{shape_of}
 use Rattle.questions.specs.declared.question.Question.{Question}
@@ -9,25 +9,21 @@ use Rattle.reasons.specs.declared.Field.{Field}
 use Rattle.reasons.specs.declared.Field.TheVariants as field
 use Rattle.reasons.specs.declared.Spot.{Spot}
 use Rattle.reasons.specs.declared.Spot.TheVariants.{Asked, Whole, Word, Byte}
-use Rattle.reasons.specs.declared.Right.{Right}
-use Rattle.reasons.specs.declared.Right.TheVariants.{One, Several}
 use Rattle.reasons.specs.declared.Because.{Because}
-use Rattle.reasons.specs.declared.Reason.{Reason}
-use Rattle.reasons.specs.declared.Reason.TheVariants.{Accepted, TurnedAway}
 
 -- LENGTH counts bytes: so many stood, and twice the answer's words would have passed; every other spot is as on words
 abbrev pub counted_in : Question → (bytes : ℕ) → Because → Spot → Because
-counted_in q bytes b Whole = found b.why Whole bytes (One (2 * (shape_of q).words))
+counted_in q bytes b Whole = found b.why Whole bytes (Some (2 * (shape_of q).words))
 counted_in q bytes b (Asked f) = b
 counted_in q bytes b (Word i) = b
 counted_in q bytes b (Byte i) = b
 
-abbrev pub in_bytes : Question → (bytes : ℕ) → Reason → Reason
-in_bytes q bytes Accepted = Accepted
-in_bytes q bytes (TurnedAway b) = TurnedAway (counted_in q bytes b b.spot)
+abbrev pub in_bytes : Question → (bytes : ℕ) → Result (Unit {0}) Because → Result (Unit {0}) Because
+in_bytes q bytes (Ok pass) = Ok tt
+in_bytes q bytes (Err b) = Err (counted_in q bytes b b.spot)
 
 -- the reason of a line of bytes: that of its words, which are none where the number of bytes is odd
-unfoldable pub reason_on : Question → (line : List ℕ) → Reason
+unfoldable pub reason_on : Question → (line : List ℕ) → Result (Unit {0}) Because
 reason_on q line = in_bytes q (length line) (reason_of q (line_on line))
 
 -- ---- packed into one number
@@ -54,13 +50,13 @@ place_of Whole = 0
 place_of (Asked f) = argument_of f
 
 -- whether one thing alone would have passed, and which
-abbrev pub is_one : Right → ℕ
-is_one (One x) = 1
-is_one Several = 0
+abbrev pub is_one : Option ℕ → ℕ
+is_one (Some x) = 1
+is_one None = 0
 
-abbrev pub right_of : Right → ℕ
-right_of (One x) = x
-right_of Several = 0
+abbrev pub right_of : Option ℕ → ℕ
+right_of (Some x) = x
+right_of None = 0
 
 -- sixteen bits of a number: 65,535 for more
 abbrev pub sixteen : ℕ → ℕ
@@ -74,9 +70,9 @@ packed_because b =
     + 65536 * sixteen (place_of b.spot) + 4294967296 * sixteen b.stood + 281474976710656 * sixteen (right_of b.right)
 
 -- 0 where the line is accepted
-abbrev pub packed_reason : Reason → ℕ
-packed_reason Accepted = 0
-packed_reason (TurnedAway b) = packed_because b
+abbrev pub packed_reason : Result (Unit {0}) Because → ℕ
+packed_reason (Ok pass) = 0
+packed_reason (Err b) = packed_because b
 
 abbrev pub packed_on : Question → (line : List ℕ) → ℕ
 packed_on q line = packed_reason (reason_on q line)

@@ -6,13 +6,13 @@ ghost use Rattle.std.specs.Prelude.{◌≡◌};
 ghost use Rattle.reasons.specs.declared.Spot.TheVariants.{Whole};
 ghost use Rattle.c_reasons.specs.Explain.{counted_in, in_bytes, reason_on, how_placed, argument_of, place_of, is_one, right_of, sixteen, packed_because, packed_reason, packed_on};
 
+use numbers::TurnedAway;
 use packing::take_line;
 use questions::question::{Question, shape_of};
-use reasons::{Because, Field, Reason, Right, Spot, explain, reason_number};
-use slices::least;
+use reasons::{Because, Field, Spot, explain};
 
 // Why the reader takes a line of bytes or turns it away.
-pub fn explain_bytes(q: Question, line: &[u8]) -> Reason
+pub fn explain_bytes(q: Question, line: &[u8]) -> Result<(), Because>
     ensures { result ≡ reason_on q line.now }
 {
     let mut words: [u16; 140] = [0; 140];
@@ -29,21 +29,21 @@ pub fn explain_packed(q: Question, line: &[u8]) -> u64
     packed_reason(reason)
 }
 
-fn packed_reason(reason: Reason) -> u64
+fn packed_reason(reason: Result<(), Because>) -> u64
     ensures { result ≡ packed_reason reason }
 {
     match reason {
-        Reason::Accepted => 0,
-        Reason::TurnedAway(b) => packed_because(b),
+        Ok(()) => 0,
+        Err(b) => packed_because(b),
     }
 }
 
-fn in_bytes(q: Question, bytes: usize, reason: Reason) -> Reason
+fn in_bytes(q: Question, bytes: usize, reason: Result<(), Because>) -> Result<(), Because>
     ensures { result ≡ in_bytes q bytes reason }
 {
     match reason {
-        Reason::Accepted => Reason::Accepted,
-        Reason::TurnedAway(b) => Reason::TurnedAway(counted_in(q, bytes, b)),
+        Ok(()) => Ok(()),
+        Err(b) => Err(counted_in(q, bytes, b)),
     }
 }
 
@@ -53,10 +53,8 @@ fn counted_in(q: Question, bytes: usize, b: Because) -> Because
 {
     let spot = b.spot;
     match spot {
-        Spot::Asked(_) => b,
         Spot::Whole => whole_in_bytes(q, bytes, b),
-        Spot::Word(_) => b,
-        Spot::Byte(_) => b,
+        Spot::Asked(_) | Spot::Word(_) | Spot::Byte(_) => b,
     }
 }
 
@@ -69,11 +67,11 @@ fn whole_in_bytes(q: Question, bytes: usize, b: Because) -> Because
         why,
         spot: Spot::Whole,
         stood: bytes,
-        right: Right::One(2 * s.words),
+        right: Some(2 * s.words),
     }
 }
 
-// Bits 0 to 7 the number, bits 8 to 10 how it is placed, bit 11 whether one thing alone would have passed, and three numbers of sixteen bits: the
+// The C interface, as all numbers below: bits 0 to 7 the number, bits 8 to 10 how it is placed, bit 11 whether one thing alone would have passed, and three numbers of sixteen bits: the
 // place, what stood, and the one thing.
 fn packed_because(b: Because) -> u64
     ensures { result ≡ packed_because b }
@@ -81,7 +79,7 @@ fn packed_because(b: Because) -> u64
     let spot = b.spot;
     let stood = b.stood;
     let right = b.right;
-    let number = reason_number(Reason::TurnedAway(b));
+    let number = b.number();
     let how = how_placed(spot);
     let one = is_one(right);
     let place = sixteen(place_of(spot));
@@ -112,8 +110,7 @@ fn place_of(spot: Spot) -> usize
     match spot {
         Spot::Asked(f) => argument_of(f),
         Spot::Whole => 0,
-        Spot::Word(i) => i,
-        Spot::Byte(i) => i,
+        Spot::Word(i) | Spot::Byte(i) => i,
     }
 }
 
@@ -129,21 +126,21 @@ fn argument_of(field: Field) -> usize
     }
 }
 
-fn is_one(right: Right) -> u64
+fn is_one(right: Option<usize>) -> u64
     ensures { result ≡ is_one right }
 {
     match right {
-        Right::One(_) => 1,
-        Right::Several => 0,
+        Some(_) => 1,
+        None => 0,
     }
 }
 
-fn right_of(right: Right) -> usize
+fn right_of(right: Option<usize>) -> usize
     ensures { result ≡ right_of right }
 {
     match right {
-        Right::One(thing) => thing,
-        Right::Several => 0,
+        Some(thing) => thing,
+        None => 0,
     }
 }
 
@@ -151,5 +148,5 @@ fn right_of(right: Right) -> usize
 fn sixteen(x: usize) -> u64
     ensures { result ≡ sixteen x }
 {
-    least(x, 65535) as u64
+    x.min(65535) as u64
 }

@@ -1,5 +1,6 @@
 -- Power-on on bytes: turned away nothing changes; else each device's bytes are those of one device's words after power-on, which makes the
 -- bytes of the whole chain's.
+use Rattle.std.specs.Prelude.{Result, ⊤}
 use mathlib.Core.Path.{◌≡◌, refl, sym, ap, ap₂, ◌∙◌}
 use mathlib.Core.Bool.{Bool, true, false, cond}
 use mathlib.Core.List.{List, ◌∷◌, ◌++◌}
@@ -15,7 +16,7 @@ use Rattle.lines.proofs.LeftBy.{left_written, left_as_it_was}
 use Rattle.packing.specs.Words.{as_bytes}
 use Rattle.packing.proofs.Back.{length_bytes, bytes_append}
 use Rattle.registers.specs.Memory.{is_chain, power_on_figure, fresh, power_on_memory, PoweredOn}
-use Rattle.registers.specs.declared.Powered.{Powered}
+use Rattle.registers.specs.declared.NoChain.{NoChain}
 use Rattle.registers.proofs.Power.{switched_on}
 use Rattle.c_twin.specs.TwinBytes.{chain_in, power_number, PowerBytesDone}
 use Rattle.c_twin.proofs.Bytes.{chain_bytes, sets_whole}
@@ -52,7 +53,7 @@ repeats k (suc n) i =
     (ap (λ (at : ℕ). tabulated fresh n at) (sym (suc-add i (256 * k))) ∙ repeats k n (suc i))
 
 -- one device's words
-pub one_on : (blank words : List ℕ) (r : Powered) → PoweredOn 1 blank words r → length blank ≡ 256 → words ≡ power_on_memory 1
+pub one_on : (blank words : List ℕ) (r : Result ⊤ NoChain) → PoweredOn 1 blank words r → length blank ≡ 256 → words ≡ power_on_memory 1
 one_on blank words r done size = switched_on 1 blank words r done (ap (is_chain 1) size)
 
 module _ (memory : List ℕ) where

@@ -1,14 +1,14 @@
 -- The twin over bytes (document 01, "The twin" and "The C side"): the definitions of the twin on the words of the bytes. Device k's register r
 -- is bytes 512k + 2r and 512k + 2r + 1 of the memory, low first.
-use Rattle.std.specs.Prelude.{◌≡◌, Bool, cond, ◌&&◌, List, ℕ, ◌*◌, ◌/◌, ◌%◌, leb, ltb, eqb, length}
+use Rattle.std.specs.Prelude.{◌≡◌, Bool, cond, ◌&&◌, List, ℕ, ◌/◌, ◌%◌, leb, ltb, eqb, length}
 use Rattle.lines.specs.Write.{at_front, left_by}
 use Rattle.packing.specs.Words.{words_of, as_bytes, line_on}
-use Rattle.registers.specs.Memory.{power_on_memory}
+use Rattle.registers.specs.Memory.{chain_of, power_on_memory}
 use Rattle.twin.specs.Step.{Chain, chain_with, hop, hops}
 
 -- row 15: 1 to 32 devices, and exactly 512 bytes for each
 abbrev pub chain_in : (n bytes : ℕ) → Bool
-chain_in n bytes = leb 1 n && leb n 32 && eqb bytes (512 * n)
+chain_in = chain_of 512
 
 -- power-on's number: 15 for TWIN, else 0
 abbrev pub power_number : (n bytes : ℕ) → ℕ

@@ -1,5 +1,6 @@
 // The twin over bytes, for the C side (document 01, "The C side"): the register memory is 512 bytes a device, two bytes a word, low first; so is
-// the line. A device needs words of its own registers and of the line alone, so that a call takes little of the stack.
+// the line. A device needs words of its own registers and of the line alone, so that a call takes little of the stack. The answers are the rows'
+// numbers, as C takes them.
 #![tactic(auto)]
 
 ghost use Rattle.std.specs.Prelude.{◌≡◌, true, ◌+◌, ◌*◌, ◌%◌, ◌≤◌, length};
@@ -10,14 +11,26 @@ ghost use Rattle.twin.specs.Step.{with_change, chain_with, hop, hops_from};
 ghost use Rattle.c_twin.specs.TwinBytes.{chain_in, chain_on, PowerBytesDone, StepBytesDone, RunBytesDone, BytesDone, InPlace, HoppedBytes};
 
 use packing::{pack, store, take_line, unpack};
-use passage::pass::{Change, pass};
-use registers::power_on;
+use passage::pass::{Store, pass};
+use registers::{is_chain, power_on};
+
+// How many bytes a device's registers take.
+const DEVICE: u16 = 512;
+
+// Devices from .. to - 1 of a chain of n.
+#[derive(Clone, Copy)]
+struct Span {
+    n: u8,
+    from: u8,
+    to: u8,
+    ghost within: { (from ≤ to) × (to ≤ n) },
+}
 
 // Power-on: the whole memory is filled, or, turned away by row 15, TWIN, left as it was.
 pub fn power_on_bytes(n: u8, memory: &mut [u8]) -> u32
     ensures { PowerBytesDone n memory.old memory.new result }
 {
-    if !is_chain_in(n, memory.len()) {
+    if !is_chain::<DEVICE>(n, memory.len()) {
         return 15;
     }
     switch_on(n, memory);
@@ -32,22 +45,27 @@ pub fn step_bytes(n: u8, device: u8, memory: &mut [u8], line: &[u8], out: &mut [
     if n <= device {
         return 15;
     }
-    span_bytes(n, device, device + 1, memory, line, out)
+    let one = Span {
+        n,
+        from: device,
+        to: device + 1,
+    };
+    span_bytes(one, memory, line, out)
 }
 
 // Every device of the chain once, in address order.
 pub fn run_bytes(n: u8, memory: &mut [u8], line: &[u8], out: &mut [u8]) -> u32
     ensures { RunBytesDone n memory.old memory.new line.now out.old out.new result }
 {
-    span_bytes(n, 0, n, memory, line, out)
+    let all = Span { n, from: 0, to: n };
+    span_bytes(all, memory, line, out)
 }
 
-// Devices from .. to - 1, once each in address order, with the rows in their order.
-fn span_bytes(n: u8, from: u8, to: u8, memory: &mut [u8], line: &[u8], out: &mut [u8]) -> u32
-    requires { (from ≤ to) × (to ≤ n) }
-    ensures { BytesDone (chain_in n (length memory.old)) (hops_from n from to (chain_on memory.old line.now)) memory.old memory.new line.now out.old out.new result }
+// The devices of a span, once each in address order, with the rows in their order.
+fn span_bytes(span: Span, memory: &mut [u8], line: &[u8], out: &mut [u8]) -> u32
+    ensures { BytesDone (chain_in span.n (length memory.old)) (hops_from span.n span.from span.to (chain_on memory.old line.now)) memory.old memory.new line.now out.old out.new result }
 {
-    if !is_chain_in(n, memory.len()) {
+    if !is_chain::<DEVICE>(span.n, memory.len()) {
         return 15;
     }
     if out.len() / 2 < line.len() / 2 {
@@ -61,30 +79,28 @@ fn span_bytes(n: u8, from: u8, to: u8, memory: &mut [u8], line: &[u8], out: &mut
         store(out, 0, line);
         return 0;
     }
-    hop_bytes(n, from, to, memory, line, out);
+    hop_bytes(span, memory, line, out);
     0
 }
 
 // The steps themselves, of a line that may be a command.
-fn hop_bytes(n: u8, from: u8, to: u8, memory: &mut [u8], line: &[u8], out: &mut [u8])
-    requires { (chain_in n (length memory.old) ≡ true) × (from ≤ to) × (to ≤ n) × (length line.now % 2 ≡ 0) × (length line.now ≤ 280) × (length line.now ≤ length out.old) }
-    ensures { HoppedBytes (hops_from n from to (chain_on memory.old line.now)) memory.new out.old out.new }
+fn hop_bytes(span: Span, memory: &mut [u8], line: &[u8], out: &mut [u8])
+    requires { (chain_in span.n (length memory.old) ≡ true) × (length line.now % 2 ≡ 0) × (length line.now ≤ 280) × (length line.now ≤ length out.old) }
+    ensures { HoppedBytes (hops_from span.n span.from span.to (chain_on memory.old line.now)) memory.new out.old out.new }
 {
-    let mut words: [u16; 140] = [0; 140];
+    let mut words = [0u16; 140];
     let count = take_line(line, &mut words);
-    hops_in_place(n, from, to, memory, &mut words[..count]);
+    hops_in_place(span, memory, &mut words[..count]);
     pack(&words[..count], out);
 }
 
 // Device after device, the line's words in place.
-fn hops_in_place(n: u8, from: u8, to: u8, memory: &mut [u8], line: &mut [u16])
-    requires { (from ≤ to) × (512 * to ≤ length memory.old) }
-    ensures { InPlace (hops_from n from to (chain_with (words_of memory.old) line.old)) memory.new line.new }
+fn hops_in_place(span: Span, memory: &mut [u8], line: &mut [u16])
+    requires { 512 * span.to ≤ length memory.old }
+    ensures { InPlace (hops_from span.n span.from span.to (chain_with (words_of memory.old) line.old)) memory.new line.new }
 {
-    let mut device: u8 = from;
-    while device < to {
-        hop_in_place(n, device, memory, line);
-        device += 1;
+    for device in span.from..span.to {
+        hop_in_place(span.n, device, memory, line);
     }
 }
 
@@ -95,23 +111,19 @@ fn hop_in_place(n: u8, device: u8, memory: &mut [u8], line: &mut [u16])
 {
     let start = 512 * device as usize;
     let end = start + 512;
-    let mut registers: [u16; 256] = [0; 256];
+    let mut registers = [0u16; 256];
     unpack(&memory[start..end], &mut registers);
     let change = pass(n, device, &registers, line);
     keep(memory, device, change);
 }
 
-// A device's register takes a new value, or none does.
-fn keep(memory: &mut [u8], device: u8, change: Change)
+// A device's register takes a new value, or none does: two bytes here, one word in `twin`. One function for both would need a trait for one store.
+fn keep(memory: &mut [u8], device: u8, change: Option<Store>)
     requires { 512 * device + 512 ≤ length memory.old }
     ensures { words_of memory.new ≡ with_change (words_of memory.old) device change }
 {
-    match change {
-        Change::Nothing => {}
-        Change::Store(reg, value) => {
-            let words: [u16; 1] = [value];
-            put_words(memory, 256 * device as usize + reg as usize, &words);
-        }
+    if let Some(Store { reg, value }) = change {
+        put_words(memory, 256 * device as usize + reg as usize, &[value]);
     }
 }
 
@@ -120,12 +132,11 @@ fn switch_on(n: u8, memory: &mut [u8])
     requires { chain_in n (length memory.old) ≡ true }
     ensures { memory.new ≡ as_bytes (power_on_memory n) }
 {
-    let mut words: [u16; 256] = [0; 256];
-    power_on(1, &mut words);
-    let mut k: u8 = 0;
-    while k < n {
-        put_words(memory, 256 * k as usize, &words);
-        k += 1;
+    let mut words = [0u16; 256];
+    // 256 words are a chain of one device, which is not turned away.
+    let _ = power_on(1, &mut words);
+    for device in 0..n {
+        put_words(memory, 256 * device as usize, &words);
     }
 }
 
@@ -136,17 +147,4 @@ fn put_words(memory: &mut [u8], at: usize, words: &[u16])
 {
     let start = 2 * at;
     pack(words, &mut memory[start..]);
-}
-
-// 1 to 32 devices, and exactly 512 bytes for each.
-fn is_chain_in(n: u8, bytes: usize) -> bool
-    ensures { result ≡ chain_in n bytes }
-{
-    if n < 1 {
-        return false;
-    }
-    if 32 < n {
-        return false;
-    }
-    bytes == 512 * n as usize
 }

@@ -5,4 +5,5 @@ pub mod Exact
 pub mod Nearest
 pub mod Ranges
 pub mod Larger
+pub mod EachRegister
 pub mod Agree

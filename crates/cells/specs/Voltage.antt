@@ -1,11 +1,21 @@
 -- The voltage of a measurement (document 01, "Cells"): unipolar m*5/16384 V, bipolar (m-8192)*5/16384 V.
-use Rattle.std.specs.Prelude.{Bool, true, false, ℕ, suc, ◌+◌, ◌*◌, ◌/◌, ℤ, pos, negsuc, neg_ℤ, nat_abs, Float}
+use Rattle.std.specs.Prelude.{Bool, true, false, ℕ, suc, ◌+◌, ◌*◌, ◌/◌, ℤ, pos, negsuc, neg_ℤ, nat_abs, Float, ◌≡◌, ◌<◌, Result, MatchResult}
 use Rattle.std.proofs.Math.IntN.{sub_ℕ}
 use Rattle.std.specs.Float.{binary32}
 use Rattle.std.specs.Float.Ieee.{round}
 use Rattle.cells.specs.declared.Range.{Range}
 use Rattle.cells.specs.declared.Range.TheVariants.{Unipolar, Bipolar}
+use Rattle.cells.specs.declared.NoRange.{NoRange}
 use Rattle.cells.specs.declared.Voltage.{Voltage}
+
+-- the number that names a range
+abbrev pub range_number : Range → ℕ
+range_number Unipolar = 0
+range_number Bipolar = 1
+
+-- the range that a number names, and any number above 1 names none
+abbrev pub IsRangeOf : ℕ → Result Range NoRange → Type 0
+IsRangeOf bipolar r = MatchResult r (λ range. range_number range ≡ bipolar) (λ none. 1 < bipolar)
 
 -- how many steps of 5/16384 V a measurement stands from 0 V
 abbrev pub steps_of : Range → ℕ → ℤ

@@ -2,8 +2,11 @@
 #![tactic(auto)]
 
 ghost use Rattle.std.specs.Prelude.{◌≡◌, ◌<◌, ◌≤◌, nat_abs};
-ghost use Rattle.cells.specs.Voltage.{steps_of, microvolts_of, volts_of, voltage_of};
-ghost use Rattle.cells.specs.Cell.{enabled, cell_of};
+ghost use Rattle.cells.specs.Voltage.{IsRangeOf, steps_of, microvolts_of, volts_of, voltage_of};
+ghost use Rattle.cells.specs.Cell.{enabled, cell_of, cell_refusal_number, cell_number};
+
+use numbers::TurnedAway;
+use std::fmt;
 
 // A register's sixteen bits, and a measurement's fourteen: not to be mistaken for one another.
 #[derive(Clone, Copy)]
@@ -13,31 +16,91 @@ pub struct Register(pub u16);
 pub struct Code(pub u16);
 
 // Unipolar counts from 0 V, bipolar from -2.5 V.
-#[derive(Clone, Copy)]
+#[derive(Clone, Copy, Debug, PartialEq, Eq)]
 pub enum Range {
     Unipolar,
     Bipolar,
 }
 
+impl fmt::Display for Range {
+    fn fmt<W: fmt::Write>(&self, f: &mut fmt::Formatter<W>) -> fmt::Result {
+        f.write_str(match self {
+            Range::Unipolar => "unipolar",
+            Range::Bipolar => "bipolar",
+        })
+    }
+}
+
+// A number that names no range.
+#[derive(Clone, Copy, Debug, PartialEq, Eq)]
+pub struct NoRange;
+
+// The C side's `bipolar`: 0 or 1.
+impl TryFrom<u8> for Range {
+    type Error = NoRange;
+
+    ghost try_from_gives = { IsRangeOf };
+
+    fn try_from(bipolar: u8) -> Result<Range, NoRange> {
+        match bipolar {
+            0 => Ok(Range::Unipolar),
+            1 => Ok(Range::Bipolar),
+            _ => Err(NoRange),
+        }
+    }
+}
+
 // Signed whole microvolts, and the same voltage in single precision.
-#[derive(Clone, Copy)]
+#[derive(Clone, Copy, Debug, PartialEq)]
 pub struct Voltage {
     pub microvolts: i32,
     pub volts: f32,
 }
 
-// Rows 12 and 13.
-#[derive(Clone, Copy)]
+// Rows 12 and 13 of "Turned away".
+#[derive(Clone, Copy, Debug, PartialEq, Eq)]
 pub enum CellRefusal {
     Channel,
     LowBits,
 }
 
-#[derive(Clone, Copy)]
+impl fmt::Display for CellRefusal {
+    fn fmt<W: fmt::Write>(&self, f: &mut fmt::Formatter<W>) -> fmt::Result {
+        f.write_str(match self {
+            CellRefusal::Channel => "CHANNEL",
+            CellRefusal::LowBits => "LOW BITS",
+        })
+    }
+}
+
+impl TurnedAway for CellRefusal {
+    ghost number = { cell_refusal_number };
+
+    fn number(self) -> u8 {
+        match self {
+            CellRefusal::Channel => 12,
+            CellRefusal::LowBits => 13,
+        }
+    }
+}
+
+// A cell's answer. An enum of its own, and no Result: document 01 names this form.
+#[derive(Clone, Copy, Debug, PartialEq)]
 pub enum Cell {
     Measured(Voltage),
     NotMeasured,
     Refused(CellRefusal),
+}
+
+// The paper's number of an answer, 0 where nothing is turned away.
+pub fn number_of(cell: Cell) -> u8
+    ensures { result ≡ cell_number cell }
+{
+    match cell {
+        Cell::Measured(_) => 0,
+        Cell::NotMeasured => 0,
+        Cell::Refused(why) => why.number(),
+    }
 }
 
 // How many steps of 5/16384 V a code stands from 0 V.
@@ -93,13 +156,11 @@ fn is_enabled(mask: u16, c: u8) -> bool
 }
 
 // Cell c of a device, by its register and the device's mask of enabled cells.
+#[tactic(auto, unfolding(crate::specs::Cell::cell_of))]
 pub fn read_cell(range: Range, mask: u16, c: u8, register: Register) -> Cell
     ensures { result ≡ cell_of range mask c register.0 }
 {
-    if c < 1 {
-        return Cell::Refused(CellRefusal::Channel);
-    }
-    if 12 < c {
+    if !(1..=12).contains(&c) {
         return Cell::Refused(CellRefusal::Channel);
     }
     if !is_enabled(mask, c) {

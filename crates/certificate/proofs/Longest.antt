@@ -5,28 +5,29 @@ use mathlib.Core.Bool.{true}
 use mathlib.Core.List.{List, [], ◌∷◌}
 use Prim.Native.Nat.{ℕ, zero, suc, ◌≤◌, ◌<◌}
 use native.Mathlib.Omega.{arith}
+use Rattle.std.specs.Prelude.{Result, Ok}
 use lib.ListN.{length, get_or}
+use Rattle.std.specs.Prelude.{Result, Ok, Err}
 use Rattle.readings.specs.Reading.{refusal_number, number_of}
 use Rattle.readings.specs.declared.Refusal.{Refusal}
 use Rattle.readings.specs.declared.Refusal.TheVariants.{Question, Room, Length, Character, Frame, Manchester, Echo, Pec, Alive, Check, Count}
-use Rattle.readings.specs.declared.Reading.{Reading}
-use Rattle.readings.specs.declared.Reading.TheVariants.{Counted, Written, Values, Refused}
+use Rattle.readings.specs.declared.Taken.{Taken}
+use Rattle.readings.specs.declared.Taken.TheVariants.{Counted, Written, Values}
 use Rattle.jobs.specs.Check.{header_in, good_file}
 use Rattle.jobs.proofs.Entries.{parts, header_version, header_most}
 use Rattle.letters.specs.Letters.{Heard}
 use Rattle.printing.proofs.Lengths.{longest}
-use Rattle.certificate.specs.declared.Certified.{Certified}
-use Rattle.certificate.specs.declared.Certified.TheVariants.{Bytes}
+use Rattle.jobs.specs.declared.FileRefusal.{FileRefusal}
 use Rattle.certificate.specs.Certificate.{heard_in, numbers_of, standing_of, certificate_of, certified_of, most_text}
 use Rattle.certificate.proofs.Certifying.{countable}
 use Rattle.certificate.proofs.Answered.{Answered, no_job, no_room, all, answered}
 
 -- no number of the table is above 99
-number_small : (r : Reading) → number_of r < 100
-number_small (Counted n) = omega arith
-number_small Written = omega arith
-number_small (Values m) = omega arith
-number_small (Refused why) = row why
+number_small : (r : Result Taken Refusal) → number_of r < 100
+number_small (Ok (Counted n)) = omega arith
+number_small (Ok Written) = omega arith
+number_small (Ok (Values m)) = omega arith
+number_small (Err why) = row why
   where
     row : (why : Refusal) → refusal_number why < 100
     row Question = omega arith
@@ -58,10 +59,10 @@ pub record WrittenOut (file text : List ℕ) (n : ℕ) : Type 0 where
   pub within : n ≤ length text
   pub most : n ≤ most_text
 
-pub written : (file text : List ℕ) (n : ℕ) → certified_of file text ≡ Bytes n → WrittenOut file text n
+pub written : (file text : List ℕ) (n : ℕ) → certified_of file text ≡ Ok n → WrittenOut file text n
 written file text n says = by_answer (certified_of file text) (answered file text) says
   where
-    by_answer : (r : Certified) → Answered file text r → r ≡ Bytes n → WrittenOut file text n
+    by_answer : (r : Result ℕ FileRefusal) → Answered file text r → r ≡ Ok n → WrittenOut file text n
     by_answer _ (all ok fits) e =
         let is : length (certificate_of file) ≡ n = cc in
         record { within = omega (arith, is, fits); most = omega (arith, is, fits_every_certificate file ok) }

@@ -1,12 +1,11 @@
 -- The entries told one after the other.
-use Rattle.std.specs.Prelude.{◌≡◌, List, ℕ, ◌+◌, ◌≤◌, length, take, drop, set}
+use Rattle.std.specs.Prelude.{◌≡◌, List, ℕ, ◌+◌, ◌≤◌, length, take, drop, set, Result, Ok, Err}
 use Rattle.jobs.specs.declared.Header.{Header}
 use Rattle.jobs.specs.Check.{size_in}
 use Rattle.listening.specs.Listening.{number_for, heard_here, listened_to}
-use Rattle.printing.specs.declared.Printed.{Printed}
-use Rattle.printing.specs.declared.Printed.TheVariants as printed
-use Rattle.certificate.specs.declared.Certified.{Certified}
-use Rattle.certificate.specs.declared.Certified.TheVariants.{Bytes, File, Room}
+use Rattle.jobs.specs.declared.FileRefusal.{FileRefusal}
+use Rattle.printing.specs.declared.PrintRefusal.{PrintRefusal}
+use Rattle.printing.specs.Print.{of_print_refusal}
 use Rattle.certificate.specs.declared.Told.{Told}
 use Rattle.certificate.specs.Certificate.{numbers_of, heard_in, standing_of}
 
@@ -24,7 +23,6 @@ pub record ToldAll (file after : List ℕ) (r : Told) : Type 0 where
   pub few : r.entries ≤ length after
 
 -- printed, said as the certificate's answer
-abbrev pub certified_as : Printed → Certified
-certified_as (printed.Bytes n) = Bytes n
-certified_as printed.Many = File
-certified_as printed.Room = Room
+abbrev pub certified_as : Result ℕ PrintRefusal → Result ℕ FileRefusal
+certified_as (Ok n) = Ok n
+certified_as (Err why) = Err (of_print_refusal why)

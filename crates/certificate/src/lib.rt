@@ -4,25 +4,15 @@
 
 mod entries;
 
-ghost use Rattle.std.specs.Prelude.{◌≡◌, true, length};
-ghost use Rattle.jobs.specs.Check.{good_file, header_in};
-ghost use Rattle.printing.specs.Print.{most_entries, PrintDone};
+ghost use Rattle.std.specs.Prelude.{◌≡◌};
+ghost use Rattle.printing.specs.Print.{PrintDone};
 ghost use Rattle.certificate.specs.Certificate.{numbers_of, heard_in, standing_of, CertificateDone};
-ghost use Rattle.certificate.specs.Telling.{certified_as};
 
 use entries::tell;
-use jobs::{Header, Opened};
+use jobs::FileRefusal;
 use letters::Standing;
-use opening::open;
-use printing::{MOST_ENTRIES, Printed, print};
-
-// How many bytes the certificate has; or which row turned the call away.
-#[derive(Clone, Copy)]
-pub enum Certified {
-    Bytes(usize),
-    File,
-    Room,
-}
+use opening::job::Job;
+use printing::{MOST_ENTRIES, PrintRefusal, print};
 
 // Memory of this size holds every certificate.
 pub const MOST_TEXT: usize = 82143;
@@ -35,48 +25,26 @@ pub struct Told {
     pub standing: Standing,
 }
 
-// The certificate at the front of the lent memory, the rest as it was; turned away by FILE, then by ROOM, nothing is written.
-pub fn certify(file: &[u8], text: &mut [u8]) -> Certified
+// The certificate at the front of the lent memory, the rest as it was, and how many bytes it has; turned away by FILE, then by ROOM, nothing is written.
+pub fn certify(file: &[u8], text: &mut [u8]) -> Result<usize, FileRefusal>
     ensures { CertificateDone file.now text.old text.new result }
 {
-    let opened = open(file);
-    let Opened::Job(header) = opened else {
-        return Certified::File;
-    };
-    as_certified(print_told(header, file, text))
+    let job = Job::try_from(file)?;
+    let bytes = print_told(job, text)?;
+    Ok(bytes)
 }
 
-// No job file has too many entries to print.
-fn as_certified(printed: Printed) -> Certified
-    ensures { result ≡ certified_as printed }
+fn print_told(job: Job<'_>, text: &mut [u8]) -> Result<usize, PrintRefusal>
+    ensures { PrintDone job.entry.header.version job.entry.header.n (numbers_of (heard_in job.entry.file.now)) (standing_of job.entry.file.now) text.old text.new result }
 {
-    match printed {
-        Printed::Bytes(n) => Certified::Bytes(n),
-        Printed::Many => Certified::File,
-        Printed::Room => Certified::Room,
-    }
-}
-
-fn print_told(header: Header, file: &[u8], text: &mut [u8]) -> Printed
-    requires { (good_file file.now ≡ true) × (header ≡ header_in file.now) }
-    ensures { PrintDone header.version header.n (numbers_of (heard_in file.now)) (standing_of file.now) text.old text.new result }
-{
-    let mut numbers = blank_numbers();
-    let told = tell(header, file, &mut numbers);
-    let entries = told.entries;
-    let standing = told.standing;
+    // A number for each entry that any file can have, with how many there are beside them: the memory is fixed.
+    let mut numbers = [0; MOST_ENTRIES];
+    let told = tell(job, &mut numbers);
     print(
-        header.version,
-        header.n,
-        &numbers[..entries],
-        standing,
+        job.header.version,
+        job.header.n,
+        &numbers[..told.entries],
+        told.standing,
         text,
     )
-}
-
-// A number for each entry.
-fn blank_numbers() -> [u8; MOST_ENTRIES]
-    ensures { length result ≡ most_entries }
-{
-    [0; MOST_ENTRIES]
 }

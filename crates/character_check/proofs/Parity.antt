@@ -15,7 +15,7 @@ use Rattle.characters.specs.Character.{bit}
 use Rattle.character_check.specs.Check.{started, stopped, even_parity}
 use Rattle.character_check.specs.Fault.{unless, checked_of}
 use Rattle.character_check.specs.declared.Fault.TheVariants.{Parity}
-use Rattle.character_check.specs.declared.Checked.TheVariants.{Sound}
+use Rattle.std.specs.Prelude.{Ok}
 
 -- ---- the stops
 
@@ -66,7 +66,7 @@ parity_counted w low start stops =
     sym (framed (even_parity w)) ∙ told ∙ framed (eqb (ones_in 12 w % 2) 0) ∙ ap (λ (n : ℕ). eqb (n % 2) 0) (sym (ones_in_lem 12 w low))
 
 -- a word without high bits, with its start and its stops, is left to parity
-pub left_to_parity : (w : ℕ) → w / 2 ^ 12 ≡ 0 → bit 0 w ≡ 0 → w / 1024 % 4 ≡ 3 → unless (eqb (ones w % 2) 0) Parity Sound ≡ checked_of w
+pub left_to_parity : (w : ℕ) → w / 2 ^ 12 ≡ 0 → bit 0 w ≡ 0 → w / 1024 % 4 ≡ 3 → unless (eqb (ones w % 2) 0) Parity (Ok tt) ≡ checked_of w
 unfolding checked_of
 left_to_parity w clear start both =
     let high = eq-eqb (w / 2 ^ 12) 0 clear in

@@ -13,12 +13,12 @@ pub fn is_character(w: u16) -> bool
     if w & 0xFC01 != 0xC00 {
         return false;
     }
-    u16::count_ones(w) % 2 == 0
+    w.count_ones() % 2 == 0
 }
 
 // What is wrong with a word, in the order in which it is looked for: a bit above the stops is set, the start bit is 1, a stop bit is 0, parity is
 // odd.
-#[derive(Clone, Copy)]
+#[derive(Clone, Copy, Debug, PartialEq, Eq)]
 pub enum Fault {
     HighBits,
     Start,
@@ -26,28 +26,21 @@ pub enum Fault {
     Parity,
 }
 
-// A word is a character, or it has a fault: the first of those that it has.
-#[derive(Clone, Copy)]
-pub enum Checked {
-    Sound,
-    Faulty(Fault),
-}
-
-// Which fault of a character a word has first. Where parity is looked at, start and stops are an even number of set bits.
-pub fn check(w: u16) -> Checked
+// Whether a word is a character, or which fault it has first. Where parity is looked at, start and stops are an even number of set bits.
+pub fn check(w: u16) -> Result<(), Fault>
     ensures { result ≡ checked_of w }
 {
     if w / 4096 != 0 {
-        return Checked::Faulty(Fault::HighBits);
+        return Err(Fault::HighBits);
     }
     if w % 2 != 0 {
-        return Checked::Faulty(Fault::Start);
+        return Err(Fault::Start);
     }
     if w / 1024 % 4 != 3 {
-        return Checked::Faulty(Fault::Stop);
+        return Err(Fault::Stop);
     }
-    if u16::count_ones(w) % 2 != 0 {
-        return Checked::Faulty(Fault::Parity);
+    if w.count_ones() % 2 != 0 {
+        return Err(Fault::Parity);
     }
-    Checked::Sound
+    Ok(())
 }

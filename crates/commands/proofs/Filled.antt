@@ -13,9 +13,9 @@ use Rattle.characters.specs.Nibble.{nibble_word}
 use Rattle.lines.specs.Line.{characters_of, line_of}
 use Rattle.lines.specs.Write.{at_front}
 use Rattle.lines.proofs.Line.{length_characters, length_line}
-use Rattle.writing.specs.PutLine.{LinePut}
-use Rattle.writing.specs.declared.Put.{Put}
-use Rattle.writing.specs.declared.Put.TheVariants.{Words, NoRoom}
+use Rattle.writing.specs.PutLine.{no_room, LinePut}
+use Rattle.std.specs.Prelude.{Result, Ok, Err}
+use Rattle.writing.specs.declared.NoRoom.{NoRoom}
 use Rattle.writing.proofs.Stored.{characters_append, stored_all, refused, put_whole, written}
 use Rattle.questions.specs.Bytes.{fill_pairs}
 use Rattle.questions.proofs.Bytes.{length_pairs}
@@ -70,15 +70,15 @@ module _ (head out : List ℕ) (n : ℕ) where
   whole : length (head ++ fill_pairs n) ≡ length head + 2 * n
   whole = length-append head (fill_pairs n) ∙ ap (λ (k : ℕ). length head + k) (length_pairs n)
 
-  pub filled_refused : length out ≤ end head n → LinePut (head ++ fill_pairs n) out out NoRoom
+  pub filled_refused : length out ≤ end head n → LinePut (head ++ fill_pairs n) out out (Err no_room)
   filled_refused h = refused (head ++ fill_pairs n) out (omega (arith, whole))
 
   -- where there is room for the whole line there is room for that of the bytes alone
-  line_first : (mid : List ℕ) (p : Put) → end head n < length out → LinePut head out mid p → mid ≡ at_front (line_of head) out
+  line_first : (mid : List ℕ) (p : Result ℕ NoRoom) → end head n < length out → LinePut head out mid p → mid ≡ at_front (line_of head) out
   line_first mid p h put = put.leaves ∙ put_whole head out (omega (arith, length_line head))
 
-  pub filled_written : (mid after : List ℕ) (p : Put) → end head n < length out → LinePut head out mid p
-      → after ≡ set (sets mid (start head) (characters_of (fill_pairs n))) (end head n) stop → LinePut (head ++ fill_pairs n) out after (Words (end head n + 1))
+  pub filled_written : (mid after : List ℕ) (p : Result ℕ NoRoom) → end head n < length out → LinePut head out mid p
+      → after ≡ set (sets mid (start head) (characters_of (fill_pairs n))) (end head n) stop → LinePut (head ++ fill_pairs n) out after (Ok (end head n + 1))
   filled_written mid after p h put e =
       let from = start head in
       let to = end head n in

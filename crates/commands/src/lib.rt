@@ -7,58 +7,76 @@ ghost use Rattle.std.proofs.lemmas.List.Edits.{sets};
 ghost use Rattle.lines.specs.Line.{characters_of};
 ghost use Rattle.writing.specs.PutLine.{LinePut};
 ghost use Rattle.questions.specs.Bytes.{fill_pairs};
-ghost use Rattle.commands.specs.Command.{CommandPut, issued_as};
+ghost use Rattle.commands.specs.Command.{CommandPut, refusal_number, room};
 
 use characters::{STOP, word_of};
 use heads::head_of;
+use numbers::TurnedAway;
 use questions::question::{Question, is_good, shape_of};
-use writing::{Put, put_line};
+use std::fmt;
+use writing::{NoRoom, put_line};
 
-// How many words the command has, or which row turned the call away.
-#[derive(Clone, Copy)]
-pub enum Issued {
-    Words(usize),
+// Rows 1 and 2 of "Turned away".
+#[derive(Clone, Copy, Debug, PartialEq, Eq)]
+pub enum CommandRefusal {
     Question,
     Room,
 }
 
-// The command's line at the front of the lent words, the rest as it was; turned away, nothing is written.
-pub fn write_command(q: Question, out: &mut [u16]) -> Issued
+impl fmt::Display for CommandRefusal {
+    fn fmt<W: fmt::Write>(&self, f: &mut fmt::Formatter<W>) -> fmt::Result {
+        match self {
+            CommandRefusal::Question => write!(f, "QUESTION"),
+            CommandRefusal::Room => write!(f, "ROOM"),
+        }
+    }
+}
+
+impl From<NoRoom> for CommandRefusal {
+    ghost from_gives = { λ _ why. why ≡ room };
+
+    fn from(_: NoRoom) -> CommandRefusal {
+        Self::Room
+    }
+}
+
+impl TurnedAway for CommandRefusal {
+    ghost number = { refusal_number };
+
+    fn number(self) -> u8 {
+        match self {
+            CommandRefusal::Question => 1,
+            CommandRefusal::Room => 2,
+        }
+    }
+}
+
+// The command's line at the front of the lent words, the rest as it was: how many words it has; turned away, nothing is written.
+pub fn write_command(q: Question, out: &mut [u16]) -> Result<usize, CommandRefusal>
     ensures { CommandPut q out.old out.new result }
 {
     if !is_good(q) {
-        return Issued::Question;
+        return Err(CommandRefusal::Question);
     }
     let head = head_of(q);
-    let bytes = head.bytes;
-    let count = head.count;
     let pairs = shape_of(q).values;
-    as_issued(put_filled(&bytes[..count], pairs, out))
-}
-
-fn as_issued(put: Put) -> Issued
-    ensures { result ≡ issued_as put }
-{
-    match put {
-        Put::Words(n) => Issued::Words(n),
-        Put::NoRoom => Issued::Room,
-    }
+    Ok(put_filled(head.taken(), pairs, out)?)
 }
 
 // The line of some bytes with fill pairs behind them: the line of the bytes alone, and the pairs from where it has its stop character on.
-fn put_filled(head: &[u8], pairs: usize, out: &mut [u16]) -> Put
+fn put_filled(head: &[u8], pairs: usize, out: &mut [u16]) -> Result<usize, NoRoom>
     requires { (length head.now ≤ 6) × (pairs ≤ 32) }
     ensures { LinePut (head.now ++ fill_pairs pairs) out.old out.new result }
 {
     let start = 2 * head.len() + 1;
     let end = start + 4 * pairs;
     if out.len() <= end {
-        return Put::NoRoom;
+        return Err(NoRoom);
     }
-    put_line(head, out);
+    let _ = put_line(head, out);
     put_pairs(out, start, pairs);
     out[end] = STOP;
-    Put::Words(end + 1)
+    Ok(end + 1)
 }
 
 // So many fill pairs, from a place on.
@@ -66,10 +84,8 @@ fn put_pairs(out: &mut [u16], start: usize, pairs: usize)
     requires { (pairs ≤ 32) × (start + 4 * pairs ≤ length out.old) }
     ensures { out.new ≡ sets out.old start (characters_of (fill_pairs pairs)) }
 {
-    let mut k = 0;
-    while k < pairs {
+    for k in 0..pairs {
         put_pair(out, start + 4 * k);
-        k += 1;
     }
 }
 

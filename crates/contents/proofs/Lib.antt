@@ -1,3 +1,3 @@
 pub mod RowLaws
-pub mod Asked
+pub mod Tests
 pub mod Agree

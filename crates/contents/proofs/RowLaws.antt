@@ -1,13 +1,15 @@
 -- What decides each of rows 7 to 11, said of plain numbers: the answers of the functions that look at one row.
-use Rattle.std.proofs.Common.{◌≡◌, ℕ, zero, suc, ◌+◌, ◌*◌, ◌%◌, ◌<◌, ◌≤◌, Bool, true, false, cond, ◌&&◌, eqb, leb, List, sym, ap, ◌∙◌, ap₂, ⊎_elim, eq-zero-or-pos, arith, eq-eqb, ne_eqb}
+use Rattle.std.specs.Prelude.{Result, Ok}
+use Rattle.std.proofs.Common.{◌≡◌, ℕ, zero, suc, ◌+◌, ◌*◌, ◌%◌, ◌<◌, ◌≤◌, Bool, true, cond, ◌&&◌, eqb, leb, List, sym, ap, ◌∙◌, ap₂, ⊎_elim, eq-zero-or-pos, arith, eq-eqb, ne_eqb}
 use Rattle.ground.proofs.Test.{below_or_not}
 use Rattle.questions.specs.Question.{by_form}
 use Rattle.questions.specs.Shape.{shape_of}
 use Rattle.questions.specs.declared.question.Question.{Question}
 use Rattle.questions.proofs.ByKind.{of_hello, of_write, of_read}
 use Rattle.contents.specs.Rows.{byte_in, value_echoed, echoed, pec_held, pec_right, alive_held, alive_right, check_byte, count_right, taken_of}
-use Rattle.readings.specs.declared.Reading.{Reading}
-use Rattle.readings.specs.declared.Reading.TheVariants.{Counted, Written, Values}
+use Rattle.readings.specs.declared.Refusal.{Refusal}
+use Rattle.readings.specs.declared.Taken.{Taken}
+use Rattle.readings.specs.declared.Taken.TheVariants.{Counted, Written, Values}
 
 pub positive : (k : ℕ) → (k ≡ 0 → ⊥) → 1 ≤ k
 positive k h = omega arith
@@ -19,10 +21,6 @@ module _ (q : Question) (bytes : List ℕ) where
   rest =
       by_form q.kind (eqb (byte_in bytes 1) 0) (eqb (byte_in bytes 1) q.reg && value_echoed q bytes) (eqb (byte_in bytes 1) q.reg)
 
-  pub first_other : (byte_in bytes 0 ≡ (shape_of q).first → ⊥) → false ≡ echoed q bytes
-  unfolding echoed rest
-  first_other h = sym (ap (λ (t : Bool). t && rest) (ne_eqb (byte_in bytes 0) (shape_of q).first h))
-
   module _ (first : byte_in bytes 0 ≡ (shape_of q).first) where
     by_rest : (b : Bool) → rest ≡ b → b ≡ echoed q bytes
     unfolding echoed rest
@@ -31,14 +29,6 @@ module _ (q : Question) (bytes : List ℕ) where
     pub hello_echo : q.kind ≡ 0 → eqb (byte_in bytes 1) 0 ≡ echoed q bytes
     unfolding rest
     hello_echo e = by_rest (eqb (byte_in bytes 1) 0) (of_hello q.kind _ _ _ e)
-
-    pub second_other : 1 ≤ q.kind → (byte_in bytes 1 ≡ q.reg → ⊥) → false ≡ echoed q bytes
-    unfolding rest
-    second_other lo h =
-        let other = ne_eqb (byte_in bytes 1) q.reg h in
-        ⊎_elim
-        (λ (w : q.kind < 3). by_rest false (of_write q.kind _ _ _ lo (omega arith) ∙ ap (λ (t : Bool). t && value_echoed q bytes) other))
-        (λ r. by_rest false (of_read q.kind _ _ _ r ∙ other)) (below_or_not q.kind 3)
 
     pub write_echo : 1 ≤ q.kind → q.kind ≤ 2 → byte_in bytes 1 ≡ q.reg → value_echoed q bytes ≡ echoed q bytes
     unfolding rest
@@ -103,24 +93,24 @@ module _ (q : Question) (bytes : List ℕ) where
 
   -- ---- what is taken
 
-  pub hello_taken : q.kind ≡ 0 → Counted (byte_in bytes 2) ≡ taken_of q bytes
+  pub hello_taken : q.kind ≡ 0 → Ok (Counted (byte_in bytes 2)) ≡ taken_of q bytes
   unfolding taken_of
   hello_taken e = sym (of_hello q.kind _ _ _ e)
 
-  pub write_taken : 1 ≤ q.kind → q.kind ≤ 2 → Written ≡ taken_of q bytes
+  pub write_taken : 1 ≤ q.kind → q.kind ≤ 2 → (Ok Written) ≡ taken_of q bytes
   unfolding taken_of
   write_taken lo hi = sym (of_write q.kind _ _ _ lo hi)
 
-  pub read_taken : 3 ≤ q.kind → Values (shape_of q).values ≡ taken_of q bytes
+  pub read_taken : 3 ≤ q.kind → Ok (Values (shape_of q).values) ≡ taken_of q bytes
   unfolding taken_of
   read_taken lo = sym (of_read q.kind _ _ _ lo)
 
   -- what is nothing of an accepted reading is nothing of this one
-  pub taken_zero : (f : Reading → ℕ) → ((n : ℕ) → f (Counted n) ≡ 0) → f Written ≡ 0 → ((m : ℕ) → f (Values m) ≡ 0) → f (taken_of q bytes) ≡ 0
+  pub taken_zero : (f : Result Taken Refusal → ℕ) → ((n : ℕ) → f (Ok (Counted n)) ≡ 0) → f (Ok Written) ≡ 0 → ((m : ℕ) → f (Ok (Values m)) ≡ 0) → f (taken_of q bytes) ≡ 0
   unfolding taken_of
   taken_zero f counted written values = by_kind q.kind
     where
-      by_kind : (k : ℕ) → f (by_form k (Counted (byte_in bytes 2)) Written (Values (shape_of q).values)) ≡ 0
+      by_kind : (k : ℕ) → f (by_form k (Ok (Counted (byte_in bytes 2))) (Ok Written) (Ok (Values (shape_of q).values))) ≡ 0
       by_kind zero = counted (byte_in bytes 2)
       by_kind (suc zero) = written
       by_kind (suc (suc zero)) = written

@@ -1,12 +1,13 @@
 -- What rows 7 to 11 of "Turned away" ask of the bytes that a line carries between its ends, and what is taken where every row passes.
 -- A row is given where what it asks for is not so; the rows in their order are in InOrder.antt.
-use Rattle.std.specs.Prelude.{ℕ, ◌+◌, ◌*◌, ◌/◌, ◌%◌, Bool, true, cond, ◌&&◌, List, take, ◌==◌, nat_le, slice_index}
+use Rattle.std.specs.Prelude.{ℕ, ◌+◌, ◌*◌, ◌/◌, ◌%◌, Bool, true, cond, ◌&&◌, List, take, ◌==◌, nat_le, slice_index, Result, Ok}
 use Rattle.pec.specs.Pec.{pec_of}
 use Rattle.questions.specs.Question.{by_form}
 use Rattle.questions.specs.Shape.{shape_of}
 use Rattle.questions.specs.declared.question.Question as asked
-use Rattle.readings.specs.declared.Reading.{Reading}
-use Rattle.readings.specs.declared.Reading.TheVariants.{Counted, Written, Values}
+use Rattle.readings.specs.declared.Refusal.{Refusal}
+use Rattle.readings.specs.declared.Taken.{Taken}
+use Rattle.readings.specs.declared.Taken.TheVariants.{Counted, Written, Values}
 
 -- byte i of an answer; past the end it reads as 0
 abbrev pub byte_in : List ℕ → ℕ → ℕ
@@ -51,5 +52,5 @@ unfoldable pub count_right : asked.Question → List ℕ → Bool
 count_right q bytes = by_form q.kind (nat_le 1 (byte_in bytes 2) && nat_le (byte_in bytes 2) 32) true true
 
 -- what is taken: HELLOALL's count, a write as it is, and of a read as many values as it carries
-unfoldable pub taken_of : asked.Question → List ℕ → Reading
-taken_of q bytes = by_form q.kind (Counted (byte_in bytes 2)) Written (Values (shape_of q).values)
+unfoldable pub taken_of : asked.Question → List ℕ → Result Taken Refusal
+taken_of q bytes = by_form q.kind (Ok (Counted (byte_in bytes 2))) (Ok Written) (Ok (Values (shape_of q).values))

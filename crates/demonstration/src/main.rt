@@ -5,28 +5,19 @@
 mod bench;
 mod show;
 
-use bench::{ask, bench, registers};
+use bench::{ask, bench};
 use questions::question::{HELLOALL, READALL, WRITEALL, WRITEDEVICE};
-use reader::read::read;
-use registers::{Powered, power_on};
+use registers::power_on;
 use std::io;
 
-fn is_on(powered: Powered) -> bool {
-    match powered {
-        Powered::On => true,
-        Powered::Twin => false,
-    }
-}
-
 fn main(rt: HostRuntime) -> io::Result<()> {
-    let mut memory = registers();
+    let mut memory = [0; 768];
     println!(rt;
         "A bench of three devices, rehearsed on the twin. The alive byte is on and starts at fe.\n"
     )?;
-    let powered = power_on(3, &mut memory);
-    if !is_on(powered) {
+    let Ok(()) = power_on(3, &mut memory) else {
         return println!(rt; "The twin turns the call away.");
-    }
+    };
     println!(rt; "Power-on: every register holds what data sheet 004 gives it.")?;
     bench(
         &rt,

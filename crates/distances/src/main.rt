@@ -5,7 +5,7 @@
 mod count;
 mod syndromes;
 
-ghost use Rattle.std.specs.Prelude.{◌≡◌, ◌≤◌, length};
+ghost use Rattle.std.specs.Prelude.{◌≤◌};
 
 use count::{pairs, triples};
 use std::io;
@@ -15,55 +15,27 @@ use syndromes::syndromes;
 // the laws of `pec` say; with more devices two are enough.
 const FEW_DEVICES: usize = 14;
 
-// A device count, at the right of the first column.
-fn devices(rt: &impl Print, n: usize) -> io::Result<()> {
-    print!(rt; "{n:>7}")
-}
-
-fn line_bits(rt: &impl Print, n: usize) -> io::Result<()> {
-    if n <= FEW_DEVICES {
-        print!(rt; "          6  ")
-    } else {
-        print!(rt; "          4  ")
-    }
+fn line_bits(n: usize) -> u8 {
+    if n <= FEW_DEVICES { 6 } else { 4 }
 }
 
 // How many damages pass. The bits that they may turn over, the PEC's eight and sixteen of each device, are the first of the table.
-fn damages(table: &[u8], n: usize) -> u64
-    requires value { 520 ≡ length table.now }
-    requires n_bound { n ≤ 32 }
+fn damages(table: &[u8; 520], n: usize) -> usize
+    requires { n ≤ 32 }
 {
-    let bits = 16 * n + 8;
-    let part = &table[..bits];
+    let bits = &table[..16 * n + 8];
     if n <= FEW_DEVICES {
-        triples(part)
+        triples(bits)
     } else {
-        pairs(part, 0, 0)
+        pairs(bits, 0)
     }
-}
-
-fn row(rt: &impl Print, table: &[u8], n: usize) -> io::Result<()>
-    requires value { 520 ≡ length table.now }
-    requires n_bound { n ≤ 32 }
-{
-    devices(rt, n)?;
-    line_bits(rt, n)?;
-    println!(rt; "{}", damages(table, n))
-}
-
-fn rows(rt: &impl Print, table: &[u8]) -> io::Result<()>
-    requires { 520 ≡ length table.now }
-{
-    let mut n = 1;
-    while n <= 32 {
-        row(rt, table, n)?;
-        n += 1;
-    }
-    Ok(())
 }
 
 fn main(rt: HostRuntime) -> io::Result<()> {
     println!(rt; "devices  line bits  damages that pass")?;
     let table = syndromes();
-    rows(&rt, &table)
+    for n in 1..=32 {
+        println!(rt; "{n:>7}  {:>9}  {}", line_bits(n), damages(&table, n))?;
+    }
+    Ok(())
 }

@@ -1,18 +1,10 @@
 // The syndrome of a bit of a READALL answer: what turning it over adds, by xor, to the difference between the PEC that is due and the PEC
 // that stands there. A damage passes when the syndromes of its bits xor to 0, whatever the values are.
-ghost use Rattle.std.specs.Prelude.{◌≡◌, length};
-
-const MASKS: [u8; 8] = [1, 2, 4, 8, 16, 32, 64, 128];
+use std::array;
 
 // The remainder once some bytes of 0 are taken in too.
 fn with_zeros(start: u8, count: usize) -> u8 {
-    let mut crc = start;
-    let mut i = 0;
-    while i < count {
-        crc = pec::step(crc, 0);
-        i += 1;
-    }
-    crc
+    (0..count).fold(start, |crc, _| pec::step(crc, 0))
 }
 
 // The syndrome of one bit of byte i. Bytes are counted from the end: byte 0 is the PEC, whose bits are their own syndromes. The others are
@@ -26,21 +18,7 @@ fn syndrome(i: usize, mask: u8) -> u8 {
     }
 }
 
-fn blank() -> [u8; 520]
-    ensures { 520 ≡ length result }
-{
-    [0; 520]
-}
-
 // The syndromes for 32 devices: 8 bits of the PEC and 512 of the values, from the end. Fewer devices have the first of them.
-pub(crate) fn syndromes() -> [u8; 520]
-    ensures { 520 ≡ length result }
-{
-    let mut table = blank();
-    let mut i = 0;
-    while i < 520 {
-        table[i] = syndrome(i / 8, MASKS[i % 8]);
-        i += 1;
-    }
-    table
+pub(crate) fn syndromes() -> [u8; 520] {
+    array::from_fn(|i| syndrome(i / 8, 1 << (i % 8)))
 }

@@ -6,70 +6,62 @@ mod show;
 
 use c_reasons::explain_bytes;
 use intake::{job_memory, take_in};
+use numbers::TurnedAway;
 use packing::join;
-use questions::question::ask;
-use readings::{Reading, number_of};
-use reasons::{Because, Reason, Right, Spot};
-use show::{name, quantity, spot_of};
+use questions::question::{Question, ask};
+use reasons::{Because, Spot};
+use show::{Place, Quantity};
 use std::io;
 
-fn would_have_passed(rt: &impl Print, spot: Spot, right: Right) -> io::Result<()> {
+// The memory has one byte more, so that a longer input shows.
+const MOST_BYTES: usize = 65536;
+
+fn would_have_passed(rt: &impl Print, spot: Spot, right: Option<usize>) -> io::Result<()> {
     match right {
-        Right::One(x) => {
-            print!(rt; "only ")?;
-            quantity(rt, spot, x)?;
-            println!(rt; " would have passed")
-        }
-        Right::Several => Ok(()),
+        Some(n) => println!(rt; "only {} would have passed", Quantity { spot, n }),
+        None => Ok(()),
     }
 }
 
 fn tell(rt: &impl Print, b: Because) -> io::Result<()> {
-    let why = b.why;
-    let spot = b.spot;
-    let stood = b.stood;
-    let right = b.right;
-    let number = number_of(Reading::Refused(why));
-    print!(rt; "turned away: {number} {}\nat ", name(why))?;
-    spot_of(rt, spot)?;
-    print!(rt; "\nstood ")?;
-    quantity(rt, spot, stood)?;
-    println!(rt)?;
+    let number = b.number();
+    let Because {
+        why,
+        spot,
+        stood,
+        right,
+    } = b;
+    println!(rt; "turned away: {number} {why}")?;
+    println!(rt; "at {}", Place(spot))?;
+    println!(rt; "stood {}", Quantity { spot, n: stood })?;
     would_have_passed(rt, spot, right)
 }
 
-fn say(rt: &impl Print, reason: Reason) -> io::Result<()> {
+fn say(rt: &impl Print, reason: Result<(), Because>) -> io::Result<()> {
     match reason {
-        Reason::Accepted => println!(rt; "accepted"),
-        Reason::TurnedAway(b) => tell(rt, b),
+        Ok(()) => println!(rt; "accepted"),
+        Err(b) => tell(rt, b),
     }
 }
 
-fn no_question(rt: &impl Print) -> io::Result<()> {
-    println!(rt; "R 14")
+// The question and the line of an input: the question's size, its numbers in the order of the C calls, and behind them the line.
+fn question_and_line(input: &[u8]) -> Option<(Question, &[u8])> {
+    let [8, kind, n, alive, reg, low, high, device, seed, line @ ..] = input else {
+        return None;
+    };
+    let value = join(*low, *high);
+    Some((ask(*kind, *n, *alive, *reg, value, *device, *seed), line))
 }
 
-// The question's numbers stand in the order of the C calls, the line behind them. The memory has one byte more than an input may have: where it is
-// full, the input is too long.
-fn answer(rt: &impl Print, input: &[u8], n: usize) -> io::Result<()> {
-    if n < 9 {
-        return no_question(rt);
+fn answer(rt: &impl Print, input: &[u8]) -> io::Result<()> {
+    match question_and_line(input) {
+        Some((q, line)) if input.len() <= MOST_BYTES => say(rt, explain_bytes(q, line)),
+        _ => println!(rt; "R 14"),
     }
-    if input.len() <= n {
-        return no_question(rt);
-    }
-    if input[0] != 8 {
-        return no_question(rt);
-    }
-    let value = join(input[5], input[6]);
-    let q = ask(
-        input[1], input[2], input[3], input[4], value, input[7], input[8],
-    );
-    say(rt, explain_bytes(q, &input[9..n]))
 }
 
 fn main(rt: HostRuntime) -> io::Result<()> {
-    let mut input = job_memory();
-    let n = take_in(&mut rt.stdin(), &mut input);
-    answer(&rt, &input, n)
+    let mut memory = job_memory();
+    let n = take_in(&mut rt.stdin(), &mut memory);
+    answer(&rt, &memory[..n])
 }

@@ -8,6 +8,9 @@ use Rattle.jobs.proofs.head_size.Reads as head_size
 use Rattle.jobs.proofs.first.Reads as first
 use Rattle.jobs.proofs.field_size.Reads as field_size
 use Rattle.jobs.proofs.next_entry.Reads as next_entry
+use Rattle.jobs.proofs.NoJobTurnedAway.number.Reads as no_job_number
+use Rattle.jobs.proofs.FileRefusalTurnedAway.number.Reads as file_number
+use Rattle.jobs.proofs.FileRefusalFromNoJob.from.Reads as from
 
 pub is_good_entry_settled : Settled is_good_entry.Post
 is_good_entry_settled l given r r' left left' p q = p ∙ sym q
@@ -26,3 +29,12 @@ field_size_settled l given r r' left left' p q = p ∙ sym q
 
 pub next_entry_settled : Settled next_entry.Post
 next_entry_settled l given r r' left left' p q = p ∙ sym q
+
+pub no_job_number_settled : Settled no_job_number.Post
+no_job_number_settled l given r r' left left' p q = p ∙ sym q
+
+pub file_number_settled : Settled file_number.Post
+file_number_settled l given r r' left left' p q = p ∙ sym q
+
+pub from_settled : Settled from.Post
+from_settled l given r r' left left' p q = p ∙ sym q

@@ -7,11 +7,13 @@ use native.Mathlib.Omega.{arith}
 use lib.Dec.{leb}
 use lib.ListN.{length, drop, length-drop}
 use borrow.Author.Tests.{leb-true}
+use Rattle.std.specs.Prelude.{Result, Ok, Err}
 use Rattle.ground.proofs.Test.{and_left, and_right}
 use Rattle.jobs.specs.declared.Header.{Header}
 use Rattle.jobs.specs.Format.{Entry, head_size}
 use Rattle.jobs.specs.Rules.{good_header}
-use Rattle.jobs.specs.declared.Opened.TheVariants as opened
+use Rattle.jobs.specs.declared.NoJob.{NoJob}
+use Rattle.jobs.specs.Refusals.{not_job}
 use Rattle.jobs.specs.Check.{size_in, entry_in, good_entry, good_entries, entries_in, marked, header_in, good_file, opened_of}
 use Rattle.jobs.proofs.Sizes.{field_bounds}
 use Rattle.jobs.proofs.Walk.{no_bytes, one_entry, walk_here, walk_over}
@@ -88,17 +90,17 @@ pub record Job (h : Header) (file : List ℕ) : Type 0 where
   pub good : good_file file ≡ true
   pub header : h ≡ header_in file
 
-pub a_job : (h : Header) (file : List ℕ) → opened_of file ≡ opened.Job h → Job h file
+pub a_job : (h : Header) (file : List ℕ) → opened_of file ≡ Ok h → Job h file
 unfolding opened_of
 a_job h file = by_test (good_file file) refl
   where
-    by_test : (t : Bool) → good_file file ≡ t → cond t (opened.Job (header_in file)) opened.File ≡ opened.Job h → Job h file
+    by_test : (t : Bool) → good_file file ≡ t → ◌≡◌ {A = Result Header NoJob} (cond t (Ok (header_in file)) (Err not_job)) (Ok h) → Job h file
     by_test true ok e = record { good = ok; header = cc }
     by_test false bad e = let z : ◌≡◌ {A = ℕ} 0 1 = cc in absurd (omega arith)
 
-pub opened_good : (file : List ℕ) → good_file file ≡ true → opened_of file ≡ opened.Job (header_in file)
+pub opened_good : (file : List ℕ) → good_file file ≡ true → opened_of file ≡ Ok (header_in file)
 unfolding opened_of
-opened_good file ok = ap (λ (t : Bool). cond t (opened.Job (header_in file)) opened.File) ok
+opened_good file ok = ap (λ (t : Bool). cond t (Ok (header_in file)) (Err not_job)) ok
 
 pub header_version : (h : Header) → good_header h ≡ true → h.version ≤ 2
 unfolding good_header

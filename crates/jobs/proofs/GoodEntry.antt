@@ -7,6 +7,7 @@ use native.Mathlib.Omega.{arith}
 use lib.Dec.{leb}
 use lib.ListN.{length, get_or, take, drop, length-take, length-drop}
 use borrow.Author.Tests.{leb-true, le-leb}
+use Rattle.std.specs.Prelude.{Some, Ok, Err}
 use Rattle.ground.proofs.Test.{and_left, and_right, refuted}
 use Rattle.packing.proofs.Back.{length_words}
 use Rattle.questions.specs.declared.question.Question.{Question}
@@ -15,7 +16,9 @@ use Rattle.jobs.specs.Format.{field_size}
 use Rattle.masks.specs.Masks.{good_mask}
 use Rattle.used_fields.specs.Used.{unused_are_zero}
 use Rattle.jobs.specs.Rules.{keeps_rules}
-use Rattle.jobs.specs.declared.Next.TheVariants as next
+use Rattle.jobs.specs.declared.EntryAt.{EntryAt}
+use Rattle.jobs.specs.declared.Cursor.{Cursor}
+use Rattle.jobs.specs.Refusals.{not_job}
 use Rattle.jobs.specs.Check.{words_in, size_in, mask_in, entry_in, asked_in, good_entry, placed_in, next_in}
 
 -- an entry that is not cut short has as many words as it says
@@ -69,18 +72,21 @@ module _ (h : Header) (front : List ℕ) where
       )
 
   -- the answer at a place where bytes are left
-  pub next_is : (at : ℕ) → 0 < length front → next_in h at front ≡ cond (good_entry h front) (placed_in h at front) next.File
+  pub next_is : (at : ℕ) → 0 < length front → next_in h at front ≡ cond (good_entry h front) (Ok (Some (placed_in h at front))) (Err not_job)
   next_is at some = by_bytes front some
     where
-      by_bytes : (l : List ℕ) → 0 < length l → next_in h at l ≡ cond (good_entry h l) (placed_in h at l) next.File
+      by_bytes : (l : List ℕ) → 0 < length l → next_in h at l ≡ cond (good_entry h l) (Ok (Some (placed_in h at l))) (Err not_job)
       by_bytes [] some = absurd (omega arith)
       by_bytes (b ∷ l) some = refl
 
+  abbrev stands : Question → (mask start words after : ℕ) → EntryAt × Cursor
+  stands q mask start words after = (record { question = q; mask = mask; start = start; words = words }, record { at = after })
+
   -- and where it stands, from its question and mask, the size of its fields and the number of its words
   pub placed_is : (at : ℕ) (q : Question) (mask fields words : ℕ) → q ≡ asked_in h front → mask ≡ mask_in v front → fields ≡ field_size v → words ≡ words_in v front
-      → next.Entry (record { question = q; mask = mask; start = at + fields; words = words }) (record { at = at + fields + 2 * words }) ≡ placed_in h at front
+      → ◌≡◌ {A = EntryAt × Cursor} (record { question = q; mask = mask; start = at + fields; words = words }, record { at = at + fields + 2 * words }) (placed_in h at front)
   placed_is at q mask fields words asks shows size number =
       let behind : at + fields + 2 * words ≡ at + size_in v front = omega (arith, size, number) in
-      ap₂ (λ (x : Question) (k : ℕ). next.Entry (record { question = x; mask = mask; start = at + fields; words = words }) (record { at = k })) asks behind
-      ∙ ap₂ (λ (m k : ℕ). next.Entry (record { question = asked_in h front; mask = m; start = at + k; words = words }) (record { at = at + size_in v front })) shows size
-      ∙ ap (λ (w : ℕ). next.Entry (record { question = asked_in h front; mask = mask_in v front; start = at + field_size v; words = w }) (record { at = at + size_in v front })) number
+      ap₂ (λ (x : Question) (k : ℕ). stands x mask (at + fields) words k) asks behind
+      ∙ ap₂ (λ (m k : ℕ). stands (asked_in h front) m (at + k) words (at + size_in v front)) shows size
+      ∙ ap (λ (w : ℕ). stands (asked_in h front) (mask_in v front) (at + field_size v) w (at + size_in v front)) number

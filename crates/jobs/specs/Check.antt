@@ -2,17 +2,18 @@
 -- `good_file` is false. That a file is good exactly when it is the encoding of a header and entries that keep the rules is proved in
 -- proofs/GoodFile.antt.
 use Rattle.std.specs.Prelude.{Bool, true, cond, ◌&&◌, List, [], ◌∷◌, ℕ, zero, suc, ◌+◌, ◌*◌, leb, eqb, length, get_or, take, drop}
+use Rattle.std.specs.Prelude.{Option, Some, None, Result, Ok, Err}
+use Rattle.numbers.specs.Numbers.{answer_number}
 use Rattle.packing.specs.Words.{words_of}
 use Rattle.questions.specs.declared.question.Question.{Question}
 use Rattle.masks.specs.Masks.{mask_of}
 use Rattle.jobs.specs.declared.Header.{Header}
 use Rattle.jobs.specs.declared.Cursor.{Cursor}
-use Rattle.jobs.specs.declared.Opened.{Opened}
-use Rattle.jobs.specs.declared.Opened.TheVariants as opened
-use Rattle.jobs.specs.declared.Next.{Next}
-use Rattle.jobs.specs.declared.Next.TheVariants as next
+use Rattle.jobs.specs.declared.EntryAt.{EntryAt}
+use Rattle.jobs.specs.declared.NoJob.{NoJob}
 use Rattle.jobs.specs.Format.{Entry, field_bytes, head_size, field_size, mask_place, behind_mask, asked}
 use Rattle.jobs.specs.Rules.{good_header, keeps_rules}
+use Rattle.jobs.specs.Refusals.{not_job, no_job_number}
 
 -- 16 bits of two bytes, low first
 abbrev pub pair_at : List ℕ → (i j : ℕ) → ℕ
@@ -81,30 +82,28 @@ good_file file =
     leb (length file) 65536 && leb head_size (length file) && marked file && good_header (header_in file) && good_entries (header_in file) (drop head_size file)
 
 -- what `open` says
-unfoldable pub opened_of : List ℕ → Opened
-opened_of file = cond (good_file file) (opened.Job (header_in file)) opened.File
+unfoldable pub opened_of : List ℕ → Result Header NoJob
+opened_of file = cond (good_file file) (Ok (header_in file)) (Err not_job)
 
 -- document 01's number of that answer
-abbrev pub opened_number : Opened → ℕ
-opened_number (opened.Job h) = 0
-opened_number opened.File = 14
+abbrev pub opened_number : Result Header NoJob → ℕ
+opened_number = answer_number no_job_number
 
--- an entry with its place
-abbrev pub placed_in : Header → (at : ℕ) → (front : List ℕ) → Next
-placed_in h at front =
-    next.Entry (record { question = asked_in h front; mask = mask_in h.version front; start = at + field_size h.version; words = words_in h.version front })
-    (record { at = at + size_in h.version front })
+-- an entry with its place, and where the next one stands
+abbrev pub placed_in : Header → (at : ℕ) → (front : List ℕ) → EntryAt × Cursor
+placed_in h at front = (
+  record { question = asked_in h front; mask = mask_in h.version front; start = at + field_size h.version; words = words_in h.version front },
+  record { at = at + size_in h.version front },
+)
 
-abbrev pub next_in : Header → (at : ℕ) → (rest : List ℕ) → Next
-next_in h at [] = next.End
-next_in h at (b ∷ rest) = cond (good_entry h (b ∷ rest)) (placed_in h at (b ∷ rest)) next.File
+abbrev pub next_in : Header → (at : ℕ) → (rest : List ℕ) → Result (Option (EntryAt × Cursor)) NoJob
+next_in h at [] = Ok None
+next_in h at (b ∷ rest) = cond (good_entry h (b ∷ rest)) (Ok (Some (placed_in h at (b ∷ rest)))) (Err not_job)
 
 -- what `next` says: from the cursor on
-unfoldable pub next_of : Header → List ℕ → Cursor → Next
+unfoldable pub next_of : Header → List ℕ → Cursor → Result (Option (EntryAt × Cursor)) NoJob
 next_of h file c = next_in h c.at (drop c.at file)
 
 -- document 01's number of that answer: the end of the entries is no refusal
-abbrev pub next_number : Next → ℕ
-next_number (next.Entry e c) = 0
-next_number next.End = 0
-next_number next.File = 14
+abbrev pub next_number : Result (Option (EntryAt × Cursor)) NoJob → ℕ
+next_number = answer_number no_job_number

@@ -1,4 +1,5 @@
 pub mod Format
 pub mod Rules
+pub mod Refusals
 pub mod Check
 pub mod Encoded

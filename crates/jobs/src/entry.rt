@@ -4,37 +4,32 @@ ghost use Rattle.std.specs.Prelude.{◌≡◌, true, ◌+◌, ◌≤◌, length,
 ghost use Rattle.jobs.specs.Format.{behind_mask};
 ghost use Rattle.jobs.specs.Check.{words_in, size_in, mask_in, asked_in, good_entry, placed_in};
 
-use crate::{Cursor, EntryAt, Header, Next, field_size};
+use crate::{Cursor, EntryAt, Header, field_size};
 use masks::{is_good_mask, mask_of};
 use packing::join;
 use questions::question::{Question, ask};
-use slices::byte_or_zero;
+use slices::element_or;
 use used_fields::are_unused_zero;
 
 // Whether an entry stands at the front of some bytes: not cut short, and keeping the rules.
+#[tactic(auto, using(crate::proofs::GoodEntry::too_short, crate::proofs::GoodEntry::too_many, crate::proofs::GoodEntry::cut_short, crate::proofs::GoodEntry::of_its_fields, crate::proofs::Sizes::field_size_is))]
 pub fn is_good_entry(header: Header, front: &[u8]) -> bool
     ensures { result ≡ good_entry header front.now }
 {
-    if front.len() < field_size(header.version) {
-        return false;
-    }
-    if 140 < words_in(header.version, front) {
-        return false;
-    }
-    if front.len() < size_in(header.version, front) {
+    let version = header.version;
+    if front.len() < field_size(version)
+        || 140 < words_in(version, front)
+        || front.len() < size_in(version, front)
+    {
         return false;
     }
     let q = question_in(header, front);
-    if 4 < q.kind {
-        return false;
-    }
-    if !are_unused_zero(q) {
-        return false;
-    }
-    is_good_mask(header.version, q.kind, mask_in(header.version, front))
+    q.kind <= 4 && are_unused_zero(q) && is_good_mask(version, q.kind, mask_in(version, front))
 }
 
-// Its size in bytes.
+// Its size in bytes. The version and the bytes stay apart here and below: callers have them apart, and a struct would be made in each function only to
+// be taken apart again.
+#[tactic(auto, using(crate::proofs::Sizes::field_bounds))]
 pub fn size_in(version: u16, front: &[u8]) -> usize
     ensures { result ≡ size_in version front.now }
 {
@@ -45,6 +40,7 @@ pub fn size_in(version: u16, front: &[u8]) -> usize
 const MASK_PLACE: usize = 4;
 
 // Where device, seed and the number of words stand.
+#[tactic(auto, using(crate::proofs::Sizes::behind_old, crate::proofs::Sizes::behind_new))]
 fn behind_mask(version: u16) -> usize
     ensures { result ≡ behind_mask version }
 {
@@ -56,13 +52,14 @@ fn behind_mask(version: u16) -> usize
 }
 
 // How many words an entry has.
+#[tactic(auto, using(crate::proofs::Sizes::behind_bounds))]
 fn words_in(version: u16, front: &[u8]) -> u16
     ensures { result ≡ words_in version front.now }
 {
     let behind = behind_mask(version);
     join(
-        byte_or_zero(front, behind + 2),
-        byte_or_zero(front, behind + 3),
+        element_or(front, behind + 2, 0),
+        element_or(front, behind + 3, 0),
     )
 }
 
@@ -71,10 +68,10 @@ fn mask_in(version: u16, front: &[u8]) -> u16
     ensures { result ≡ mask_in version front.now }
 {
     let said = join(
-        byte_or_zero(front, MASK_PLACE),
-        byte_or_zero(front, MASK_PLACE + 1),
+        element_or(front, MASK_PLACE, 0),
+        element_or(front, MASK_PLACE + 1, 0),
     );
-    mask_of(version, byte_or_zero(front, 0), said)
+    mask_of(version, element_or(front, 0, 0), said)
 }
 
 fn question_in(header: Header, front: &[u8]) -> Question
@@ -91,7 +88,8 @@ fn question_in(header: Header, front: &[u8]) -> Question
 }
 
 // An entry that is known to stand at a place.
-pub(crate) fn entry_known_at(header: Header, file: &[u8], at: usize) -> Next
+#[tactic(auto, using(crate::proofs::GoodEntry::good, crate::proofs::GoodEntry::placed_is, crate::proofs::Sizes::field_size_is, ground::proofs::Lists::part_to_end))]
+pub(crate) fn entry_known_at(header: Header, file: &[u8], at: usize) -> (EntryAt, Cursor)
     requires { (at ≤ length file.now) × (good_entry header (drop at file.now) ≡ true) }
     ensures { result ≡ placed_in header at (drop at file.now) }
 {
@@ -99,7 +97,7 @@ pub(crate) fn entry_known_at(header: Header, file: &[u8], at: usize) -> Next
     let question = question_in(header, &file[at..]);
     let mask = mask_in(header.version, &file[at..]);
     let start = at + field_size(header.version);
-    Next::Entry(
+    (
         EntryAt {
             question,
             mask,

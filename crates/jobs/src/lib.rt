@@ -7,8 +7,10 @@ pub mod entry;
 ghost use Rattle.std.specs.Prelude.{◌≡◌};
 ghost use Rattle.jobs.specs.Format.{head_size, field_size};
 ghost use Rattle.jobs.specs.Check.{next_of};
+ghost use Rattle.jobs.specs.Refusals.{no_job_number, file_number, of_no_job};
 
 use entry::{entry_known_at, is_good_entry};
+use numbers::TurnedAway;
 use questions::question::Question;
 
 // The file's version, how many devices the chain has, and whether the alive byte is on.
@@ -34,22 +36,46 @@ pub struct EntryAt {
     pub words: usize,
 }
 
-// A job file, with its header; or row 14, FILE.
-#[derive(Clone, Copy)]
-pub enum Opened {
-    Job(Header),
-    File,
+// Row 14, FILE: bytes that are no job file, or no entry of one.
+#[derive(Clone, Copy, Debug, PartialEq, Eq)]
+pub struct NoJob;
+
+impl TurnedAway for NoJob {
+    ghost number = { no_job_number };
+
+    fn number(self) -> u8 {
+        14
+    }
 }
 
-// An entry, and where the next one stands; no more entries; or what is no entry.
-#[derive(Clone, Copy)]
-pub enum Next {
-    Entry(EntryAt, Cursor),
-    End,
+// Why a job file is not answered with bytes: it is none, or the lent memory is too small.
+#[derive(Clone, Copy, Debug, PartialEq, Eq)]
+pub enum FileRefusal {
     File,
+    Room,
+}
+
+impl TurnedAway for FileRefusal {
+    ghost number = { file_number };
+
+    fn number(self) -> u8 {
+        match self {
+            FileRefusal::File => 14,
+            FileRefusal::Room => 2,
+        }
+    }
+}
+
+impl From<NoJob> for FileRefusal {
+    ghost from_gives = { λ why refusal. refusal ≡ of_no_job why };
+
+    fn from(_why: NoJob) -> Self {
+        Self::File
+    }
 }
 
 // How many bytes stand in front of the first entry.
+#[tactic(auto, unfolding(crate::specs::Format::head_size))]
 pub fn head_size() -> usize
     ensures { result ≡ head_size }
 {
@@ -64,22 +90,28 @@ pub fn first() -> Cursor
 }
 
 // How many bytes an entry has in front of its words.
+#[tactic(auto, using(crate::proofs::Sizes::behind_old, crate::proofs::Sizes::behind_new, crate::proofs::Sizes::field_size_is))]
 pub fn field_size(version: u16) -> usize
     ensures { result ≡ field_size version }
 {
     if version < 2 { 8 } else { 10 }
 }
 
-// The entry at a cursor.
-pub fn next_entry(header: Header, file: &[u8], cursor: Cursor) -> Next
+// The entry at a cursor, and where the next one stands; none behind the last.
+#[tactic(auto, using(crate::proofs::GoodEntry::next_is, ground::proofs::Lists::part_to_end), unfolding(crate::specs::Check::next_of))]
+pub fn next_entry(
+    header: Header,
+    file: &[u8],
+    cursor: Cursor,
+) -> Result<Option<(EntryAt, Cursor)>, NoJob>
     ensures { result ≡ next_of header file.now cursor }
 {
     let at = cursor.at;
     if file.len() <= at {
-        return Next::End;
+        return Ok(None);
     }
     if !is_good_entry(header, &file[at..]) {
-        return Next::File;
+        return Err(NoJob);
     }
-    entry_known_at(header, file, at)
+    Ok(Some(entry_known_at(header, file, at)))
 }

@@ -9,13 +9,12 @@ use native.Mathlib.Omega.{arith}
 use lib.Dec.{eqb, leb}
 use lib.ListN.{length}
 use borrow.Author.Tests.{eqb-true, eq-eqb, leb-true, le-leb}
+use Rattle.std.specs.Prelude.{Result, Ok, Err, Option, Some, None}
 use Rattle.ground.proofs.Test.{below_or_not}
 use Rattle.lines.specs.Line.{bytes_of}
 use Rattle.lines.proofs.Line.{byte_count}
 use Rattle.scanning.specs.Place.{first_no_character, first_no_nibble}
 use Rattle.scanning.specs.Frame.{framed}
-use Rattle.scanning.specs.declared.Place.{Place}
-use Rattle.scanning.specs.declared.Place.TheVariants.{At, Nowhere}
 use Rattle.scanning.proofs.Whole.{Passes}
 use Rattle.questions.specs.Question.{good_question}
 use Rattle.questions.specs.Shape.{shape_of}
@@ -25,9 +24,8 @@ use Rattle.readings.specs.Reading.{number_of, values_taken}
 use Rattle.readings.specs.FirstFault.{first_fault}
 use Rattle.readings.specs.declared.Refusal.{Refusal}
 use Rattle.readings.specs.declared.Refusal.TheVariants.{Question, Room, Length, Character, Frame, Manchester, Echo, Pec, Alive, Check, Count}
-use Rattle.readings.specs.declared.Reading.{Reading}
-use Rattle.readings.specs.declared.Reading.TheVariants.{Counted, Written, Values, Refused}
-use Rattle.readings.specs.declared.Screened.TheVariants.{Passed}
+use Rattle.readings.specs.declared.Taken.{Taken as Answer}
+use Rattle.readings.specs.declared.Taken.TheVariants.{Counted, Written, Values}
 use Rattle.readings.proofs.FirstFault.{each_passed, asked_is_so, accepted_passed}
 use Rattle.contents.specs.Rows.{byte_in, echoed, pec_right, alive_right, check_byte, count_right, taken_of}
 use Rattle.contents.specs.InOrder.{byte_rows}
@@ -35,9 +33,9 @@ use Rattle.contents.proofs.RowLaws.{hello_taken, write_taken, read_taken}
 use Rattle.judging.specs.Judge.{given_at, screen_rows, rows_of, judge_of}
 
 -- a row that looked for a place and passed found none
-found_none : (why : ℕ → Refusal) (p : Place) → given_at why p ≡ Passed → p ≡ Nowhere
-found_none why (At i) e = absurd (let z : ◌≡◌ {A = ℕ} 0 1 = cc in omega arith)
-found_none why Nowhere e = refl
+found_none : (why : ℕ → Refusal) (p : Option ℕ) → given_at why p ≡ Ok tt → p ≡ None
+found_none why (Some i) e = absurd (let z : ◌≡◌ {A = ℕ} 0 1 = cc in omega arith)
+found_none why None e = refl
 
 -- every row passes
 pub record Taken (q : asked.Question) (line : List ℕ) (room : ℕ) : Type 0 where
@@ -84,7 +82,7 @@ module _ (q : asked.Question) (line : List ℕ) (room : ℕ) where
 
 -- ---- values are handed out by reads alone, as many as they carry
 
-taken_values : (q : asked.Question) (bytes : List ℕ) (m : ℕ) → taken_of q bytes ≡ Values m → (m ≡ (shape_of q).values) × (3 ≤ q.kind)
+taken_values : (q : asked.Question) (bytes : List ℕ) (m : ℕ) → taken_of q bytes ≡ Ok (Values m) → (m ≡ (shape_of q).values) × (3 ≤ q.kind)
 taken_values q bytes m e =
     ⊎_elim
     (λ (low : q.kind < 3). absurd (⊎_elim
@@ -98,7 +96,7 @@ pub record Carries (q : asked.Question) (line : List ℕ) (room m : ℕ) : Type 
   pub values : m ≡ (shape_of q).values
   pub read : 3 ≤ q.kind
 
-pub carries : (q : asked.Question) (line : List ℕ) (room m : ℕ) → judge_of q line room ≡ Values m → Carries q line room m
+pub carries : (q : asked.Question) (line : List ℕ) (room m : ℕ) → judge_of q line room ≡ Ok (Values m) → Carries q line room m
 carries q line room m e =
     let taken = accepted_takes q line room (ap number_of e) in
     let is = taken_values q (bytes_of line) m (sym (taken_reads q line room taken) ∙ e) in
@@ -109,11 +107,11 @@ pub some_values : (q : asked.Question) (line : List ℕ) (room : ℕ) → 0 < va
     → Carries q line room (values_taken (judge_of q line room))
 some_values q line room = by_reading (judge_of q line room) refl
   where
-    by_reading : (r : Reading) → judge_of q line room ≡ r → 0 < values_taken r → Carries q line room (values_taken r)
-    by_reading (Counted n) e h = absurd (omega arith)
-    by_reading Written e h = absurd (omega arith)
-    by_reading (Values m) e h = carries q line room m e
-    by_reading (Refused why) e h = absurd (omega arith)
+    by_reading : (r : Result Answer Refusal) → judge_of q line room ≡ r → 0 < values_taken r → Carries q line room (values_taken r)
+    by_reading (Ok (Counted n)) e h = absurd (omega arith)
+    by_reading (Ok Written) e h = absurd (omega arith)
+    by_reading (Ok (Values m)) e h = carries q line room m e
+    by_reading (Err why) e h = absurd (omega arith)
 
 -- they fit the output, and there are never more than 32
 pub values_fit : (q : asked.Question) (line : List ℕ) (room : ℕ)

@@ -8,22 +8,19 @@ use native.Mathlib.Omega.{arith}
 use lib.Dec.{eqb, leb}
 use lib.ListN.{length}
 use borrow.Author.Tests.{leb-true, le-leb, leb-false, lt-leb, eqb-true}
+use Rattle.std.specs.Prelude.{Ok, Option, Some, None}
 use Rattle.lines.specs.Line.{bytes_of}
 use Rattle.scanning.specs.Place.{first_no_character, first_no_nibble}
 use Rattle.scanning.specs.Frame.{framed}
-use Rattle.scanning.specs.declared.Place.{Place}
-use Rattle.scanning.specs.declared.Place.TheVariants.{At, Nowhere}
 use Rattle.scanning.proofs.FirstPlace.{at_first, characters_along, nibbles_along}
 use Rattle.questions.specs.Question.{good_question}
 use Rattle.questions.specs.Shape.{shape_of}
 use Rattle.questions.specs.declared.question.Question as asked
 use Rattle.questions.proofs.Good.{good_values, words_most}
 use Rattle.readings.specs.Reading.{refusal_place, place_of}
-use Rattle.readings.specs.FirstFault.{given_unless, said}
+use Rattle.readings.specs.FirstFault.{Said, given_unless, said}
 use Rattle.readings.specs.declared.Refusal.{Refusal}
 use Rattle.readings.specs.declared.Refusal.TheVariants.{Question, Room, Length, Character, Frame, Manchester, Echo, Pec, Alive, Check, Count}
-use Rattle.readings.specs.declared.Screened.{Screened}
-use Rattle.readings.specs.declared.Screened.TheVariants.{Passed}
 use Rattle.readings.proofs.FirstFault.{first_of_each}
 use Rattle.readings.proofs.FirstFault.Each.{none, next}
 use Rattle.contents.specs.Rows.{byte_in, echoed, pec_right, alive_right, check_byte, count_right, taken_of}
@@ -33,10 +30,10 @@ use Rattle.judging.specs.Judge.{given_at, screen_rows, rows_of, judge_of}
 
 -- ---- a place lies on the line
 
-character_place : (line : List ℕ) (i : ℕ) → first_no_character line ≡ At i → i ≤ length line
+character_place : (line : List ℕ) (i : ℕ) → first_no_character line ≡ Some i → i ≤ length line
 character_place line i e = omega (arith, (at_first _ line 0 (length line) i (sym (characters_along line) ∙ e)).below)
 
-nibble_place : (line : List ℕ) (i : ℕ) → first_no_nibble line ≡ At i → i ≤ length line
+nibble_place : (line : List ℕ) (i : ℕ) → first_no_nibble line ≡ Some i → i ≤ length line
 nibble_place line i e = omega (arith, (at_first _ line 1 (length line - 2) i (sym (nibbles_along line) ∙ e)).below)
 
 place_within : (q : asked.Question) (line : List ℕ) (room : ℕ) → place_of (judge_of q line room) ≤ length line
@@ -59,19 +56,19 @@ place_within q line room =
     bytes : List ℕ
     bytes = bytes_of line
 
-    Within : Screened → Type 0
+    Within : Said → Type 0
     Within s = place_of (said s (taken_of q (bytes_of line))) ≤ length line
 
-    pass : Within Passed
+    pass : Within (Ok tt)
     pass = omega (arith, taken_zero q (bytes_of line) place_of (λ n. refl) refl (λ m. refl))
 
     unless : (why : Refusal) (t : Bool) → refusal_place why ≡ 0 → Within (given_unless why t)
     unless why true e = pass
     unless why false e = omega arith
 
-    at : (why : ℕ → Refusal) (p : Place) → ((i : ℕ) → p ≡ At i → refusal_place (why i) ≤ length line) → Within (given_at why p)
-    at why (At i) row = row i refl
-    at why Nowhere row = pass
+    at : (why : ℕ → Refusal) (p : Option ℕ) → ((i : ℕ) → p ≡ Some i → refusal_place (why i) ≤ length line) → Within (given_at why p)
+    at why (Some i) row = row i refl
+    at why None row = pass
 
 -- and LENGTH comes first, so that it lies on a line of 140 words at most, whatever line was lent
 pub place_most : (q : asked.Question) (line : List ℕ) (room : ℕ) → place_of (judge_of q line room) ≤ 140

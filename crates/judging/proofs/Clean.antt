@@ -7,16 +7,15 @@ use Prim.Native.Nat.{ℕ, ◌+◌, ◌-◌, ◌<◌, ◌≤◌}
 use native.Mathlib.Nat.{eq-zero-or-pos}
 use native.Mathlib.Omega.{arith}
 use lib.ListN.{length, get_or}
+use Rattle.std.specs.Prelude.{Ok, None}
 use Rattle.ground.proofs.Test.{and_left, and_right, below_or_not}
 use Rattle.characters.specs.Nibble.{is_nibble}
 use Rattle.character_check.specs.Check.{is_character}
 use Rattle.character_check.proofs.Pass.{preamble_character, stop_character, nibble_is_character}
 use Rattle.scanning.specs.Place.{first_no_character, first_no_nibble}
 use Rattle.scanning.specs.Frame.{framed}
-use Rattle.scanning.specs.declared.Place.TheVariants.{Nowhere}
 use Rattle.scanning.proofs.FirstPlace.{nowhere_passes, passes_nowhere, characters_along, nibbles_along, nibbles_nowhere}
 use Rattle.scanning.proofs.Ends.{first_preamble, last_stop}
-use Rattle.readings.specs.declared.Screened.TheVariants.{Passed}
 use Rattle.judging.specs.Judge.{screen_rows}
 use Rattle.judging.specs.Clean.{WordsSay, is_clean}
 
@@ -25,7 +24,7 @@ module _ (line : List ℕ) (clean : is_clean line ≡ true) where
   unfolding is_clean
   frame = and_left (framed line) _ clean
 
-  nibbles : first_no_nibble line ≡ Nowhere
+  nibbles : first_no_nibble line ≡ None
   unfolding is_clean
   nibbles = nibbles_nowhere line (and_right (framed line) _ clean)
 
@@ -44,9 +43,9 @@ module _ (line : List ℕ) (clean : is_clean line ≡ true) where
       (below_or_not j (1 + (length line - 2))))
       (eq-zero-or-pos j)
 
-  characters : first_no_character line ≡ Nowhere
+  characters : first_no_character line ≡ None
   characters = characters_along line ∙ passes_nowhere is_character line 0 (length line) (λ j lo hi. each_character j (omega arith))
 
-  pub clean_passes : WordsSay line Passed
+  pub clean_passes : WordsSay line (Ok tt)
   unfolding screen_rows
   clean_passes q room = simp (characters, frame, nibbles)

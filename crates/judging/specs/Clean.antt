@@ -4,12 +4,11 @@ use Rattle.std.specs.Prelude.{◌≡◌, Bool, ◌&&◌, List, ℕ, drop}
 use Rattle.scanning.specs.Place.{all_nibbles}
 use Rattle.scanning.specs.Frame.{framed}
 use Rattle.questions.specs.declared.question.Question.{Question}
-use Rattle.readings.specs.FirstFault.{first_fault}
-use Rattle.readings.specs.declared.Screened.{Screened}
+use Rattle.readings.specs.FirstFault.{Said, first_fault}
 use Rattle.judging.specs.Judge.{screen_rows}
 
 -- what rows 4 to 6 of the list say of a line, whatever is asked and whatever the room
-abbrev pub WordsSay : List ℕ → Screened → Type 0
+abbrev pub WordsSay : List ℕ → Said → Type 0
 WordsSay line said = (q : Question) (room : ℕ) → said ≡ first_fault (drop 3 (screen_rows q line room))
 
 unfoldable pub is_clean : List ℕ → Bool

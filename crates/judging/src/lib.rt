@@ -6,15 +6,15 @@ ghost use Rattle.judging.specs.Judge.{screen_of};
 ghost use Rattle.judging.specs.Clean.{WordsSay, is_clean};
 
 use questions::question::{Question, is_good, shape_of};
-use readings::{Refusal, Screened};
-use scanning::{Place, all_nibbles, first_no_character, first_no_nibble, is_framed};
+use readings::Refusal;
+use scanning::{all_nibbles, first_no_character, first_no_nibble, is_framed};
 
 // Rows 4 to 6. A nibble is a character: a line that is framed and has nibbles between needs no other look.
-fn screen_words(line: &[u16]) -> Screened
+fn screen_words(line: &[u16]) -> Result<(), Refusal>
     ensures { WordsSay line.now result }
 {
     if is_clean(line) {
-        return Screened::Passed;
+        return Ok(());
     }
     screen_in_order(line)
 }
@@ -29,38 +29,38 @@ fn is_clean(line: &[u16]) -> bool
 }
 
 // Rows 4 to 6 one after the other, each over the whole line before the next.
-fn screen_in_order(line: &[u16]) -> Screened
+fn screen_in_order(line: &[u16]) -> Result<(), Refusal>
     ensures { WordsSay line.now result }
 {
     let bad = first_no_character(line);
-    if let Place::At(i) = bad {
-        return Screened::Faulty(Refusal::Character(i));
+    if let Some(i) = bad {
+        return Err(Refusal::Character(i));
     }
     if !is_framed(line) {
-        return Screened::Faulty(Refusal::Frame);
+        return Err(Refusal::Frame);
     }
     let odd = first_no_nibble(line);
-    if let Place::At(i) = odd {
-        return Screened::Faulty(Refusal::Manchester(i));
+    if let Some(i) = odd {
+        return Err(Refusal::Manchester(i));
     }
-    Screened::Passed
+    Ok(())
 }
 
 // Rows 1 to 6, with room for so many values.
-pub fn screen(q: Question, line: &[u16], room: usize) -> Screened
+pub fn screen(q: Question, line: &[u16], room: usize) -> Result<(), Refusal>
     ensures { result ≡ screen_of q line.now room }
 {
     if !is_good(q) {
-        return Screened::Faulty(Refusal::Question);
+        return Err(Refusal::Question);
     }
     let s = shape_of(q);
     let values = s.values;
     if room < values {
-        return Screened::Faulty(Refusal::Room);
+        return Err(Refusal::Room);
     }
     let words = s.words;
     if line.len() != words {
-        return Screened::Faulty(Refusal::Length);
+        return Err(Refusal::Length);
     }
     screen_words(line)
 }

@@ -10,10 +10,10 @@ use Rattle.questions.specs.Question.{covers_at, covers}
 use Rattle.questions.specs.declared.question.Question.{Question}
 use Rattle.letters.specs.Letters.{decides}
 use Rattle.letters.specs.Span.{span_at, span_of}
-use Rattle.letters.specs.declared.Span.{Span}
+use Rattle.std.specs.declared.ops.Range.{Range}
 
-abbrev within : Span → ℕ → Bool
-within s a = leb s.first a && ltb a s.end
+abbrev within : Range ℕ → ℕ → Bool
+within s a = leb s.start a && ltb a s.end
 
 -- one device is a span of its own
 alone : (a d : ℕ) → eqb a d ≡ (leb d a && ltb a (d + 1))
@@ -40,14 +40,14 @@ covers_span : (q : Question) (a : ℕ) → covers q a ≡ within (span_of q) a
 unfolding covers span_of
 covers_span q a = covers_at_lem q.kind q a
 
-covered : (q : Question) (a : ℕ) → (span_of q).first ≤ a → a < (span_of q).end → covers q a ≡ true
+covered : (q : Question) (a : ℕ) → (span_of q).start ≤ a → a < (span_of q).end → covers q a ≡ true
 covered q a low high = covers_span q a ∙ ap₂ (λ (t u : Bool). t && u) (le-leb _ _ low) (lt-ltb _ _ high)
 
-covered_only : (q : Question) (a : ℕ) → covers q a ≡ true → ((span_of q).first ≤ a) × (a < (span_of q).end)
+covered_only : (q : Question) (a : ℕ) → covers q a ≡ true → ((span_of q).start ≤ a) × (a < (span_of q).end)
 covered_only q a e =
     let s = span_of q in
     let both = sym (covers_span q a) ∙ e in
-    (leb-true s.first a (and_left _ (ltb a s.end) both), ltb-true a s.end (and_right (leb s.first a) _ both))
+    (leb-true s.start a (and_left _ (ltb a s.end) both), ltb-true a s.end (and_right (leb s.start a) _ both))
 
 -- a question that decides covers the device
 pub decides_covers : (write q : Question) (a : ℕ) → decides write q a ≡ true → covers q a ≡ true
@@ -57,10 +57,10 @@ decides_covers write q a d = and_right (eqb q.reg write.reg) (covers q a) (and_l
 module _ (write q : Question) where
   -- the devices that a question and the write both cover, of the 32
   abbrev pub from : ℕ
-  from = max (span_of q).first (span_of write).first
+  from = max (span_of q).start (span_of write).start
 
   abbrev pub upto : ℕ
-  upto = min 32 (min (span_of q).end (span_of write).end)
+  upto = min (min (span_of q).end (span_of write).end) 32
 
   pub decides_between : (a : ℕ) → q.reg ≡ write.reg → from ≤ a → a < upto → decides write q a ≡ true
   unfolding decides

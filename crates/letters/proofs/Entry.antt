@@ -5,9 +5,11 @@ use mathlib.Core.Bool.{true, false, cond}
 use Prim.Native.Nat.{ℕ, ◌<◌}
 use native.Mathlib.Nat.{zero-add}
 use lib.ListN.{get_or}
+use Rattle.std.specs.Prelude.{Result, Ok, Err}
 use Rattle.ground.proofs.Sweep.{tabulated_at}
-use Rattle.readings.specs.declared.Reading.{Reading}
-use Rattle.readings.specs.declared.Reading.TheVariants.{Counted, Written, Values, Refused}
+use Rattle.readings.specs.declared.Refusal.{Refusal}
+use Rattle.readings.specs.declared.Taken.{Taken}
+use Rattle.readings.specs.declared.Taken.TheVariants.{Counted, Written, Values}
 use Rattle.letters.specs.Letters.{Heard, verdict, letter_after, unheard, by_reading, hear_of}
 use Rattle.letters.specs.Meaning.{good_write, decisive, own_value}
 use Rattle.letters.specs.declared.Standing.{Standing}
@@ -28,11 +30,11 @@ pub other_entry_keeps_write : (s : Standing) (e : Heard) → good_write e ≡ fa
 unfolding hear_of
 other_entry_keeps_write s e other = simp other (each e.reading)
   where
-    each : (r : Reading) → anew (by_reading s e.question r e.values) ≡ anew s
-    each (Counted n) = refl
-    each Written = refl
-    each (Values m) = refl
-    each (Refused why) = refl
+    each : (r : Result Taken Refusal) → anew (by_reading s e.question r e.values) ≡ anew s
+    each (Ok (Counted n)) = refl
+    each (Ok Written) = refl
+    each (Ok (Values m)) = refl
+    each (Err why) = refl
 
 -- the verdict of an entry that decides, else the letter that stood
 abbrev pub next_letter : Standing → Heard → ℕ → ℕ
@@ -42,13 +44,13 @@ pub letter_next : (s : Standing) (e : Heard) (a : ℕ) → a < 32 → good_write
 unfolding hear_of letter_after
 letter_next s e a h other = simp other (each e.reading)
   where
-    each : (r : Reading) → get_or (by_reading s e.question r e.values).letters a 0
+    each : (r : Result Taken Refusal) → get_or (by_reading s e.question r e.values).letters a 0
         ≡ next_letter s (record { question = e.question; mask = e.mask; reading = r; values = e.values }) a
-    each (Counted n) = refl
-    each Written = refl
-    each (Values m) =
+    each (Ok (Counted n)) = refl
+    each (Ok Written) = refl
+    each (Ok (Values m)) =
         tabulated_at rule 32 0 a h ∙ ap rule (zero-add a)
       where
         rule : ℕ → ℕ
         rule a = letter_after s.write s.mask e.question a e.values (get_or s.letters a 0)
-    each (Refused why) = refl
+    each (Err why) = refl

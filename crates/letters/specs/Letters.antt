@@ -1,13 +1,14 @@
 -- The letters of a certificate (document 01, "Job file and certificate"; document 02, M-100), as a fold over what is heard of the entries in
 -- their order. A device's letter after an entry is worked out from its letter before, the question, the reader's acceptance and its own value,
 -- of which the bits of the write's mask decide.
-use Rattle.std.specs.Prelude.{Bool, cond, ◌&&◌, List, [], ◌∷◌, ℕ, eqb, get_or, replicate}
+use Rattle.std.specs.Prelude.{Bool, cond, ◌&&◌, List, [], ◌∷◌, ℕ, eqb, get_or, replicate, Result, Ok, Err}
 use Rattle.std.specs.Int.Bits.{bit_and}
 use Rattle.ground.specs.Sweep.{tabulated}
 use Rattle.questions.specs.Question.{asking, hello_all, read_all, good_question, covers}
 use Rattle.questions.specs.declared.question.Question.{Question}
-use Rattle.readings.specs.declared.Reading.{Reading}
-use Rattle.readings.specs.declared.Reading.TheVariants.{Counted, Written, Values, Refused}
+use Rattle.readings.specs.declared.Refusal.{Refusal}
+use Rattle.readings.specs.declared.Taken.{Taken}
+use Rattle.readings.specs.declared.Taken.TheVariants.{Counted, Written, Values}
 use Rattle.masks.specs.Masks.{is_write}
 use Rattle.letters.specs.declared.Standing.{Standing}
 
@@ -61,21 +62,21 @@ decided s q values = record {
 }
 
 -- only an accepted read has values; a refusal, a write's echo and a count leave the letters as they stand
-abbrev pub by_reading : Standing → Question → Reading → (values : List ℕ) → Standing
-by_reading s q (Counted n) values = s
-by_reading s q Written values = s
-by_reading s q (Values m) values = decided s q values
-by_reading s q (Refused why) values = s
+abbrev pub by_reading : Standing → Question → Result Taken Refusal → (values : List ℕ) → Standing
+by_reading s q (Ok (Counted n)) values = s
+by_reading s q (Ok Written) values = s
+by_reading s q (Ok (Values m)) values = decided s q values
+by_reading s q (Err why) values = s
 
 -- one entry; its mask counts where it is a good write
-unfoldable pub hear_of : Standing → Question → (mask : ℕ) → Reading → (values : List ℕ) → Standing
+unfoldable pub hear_of : Standing → Question → (mask : ℕ) → Result Taken Refusal → (values : List ℕ) → Standing
 hear_of s q mask reading values = cond (is_good_write q) (unheard q mask) (by_reading s q reading values)
 
 -- what is heard of an entry: its question and mask, what the reader says of its answer, and the values that the reader hands out
 pub record Heard : Type 0 where
   pub question : Question
   pub mask : ℕ
-  pub reading : Reading
+  pub reading : Result Taken Refusal
   pub values : List ℕ
 
 -- all entries, in their order

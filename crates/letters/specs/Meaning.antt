@@ -2,12 +2,13 @@
 -- the certificate concerns the last write entry whose question is good; for each device it covers, the latest accepted read of that register
 -- that comes after it and covers the device decides: S exactly where it shows the value written. To show it is said on its own, so that both
 -- can be read: in the masked bits, as the certificate has it, and in all sixteen, which is the same for a version 1 file.
-use Rattle.std.specs.Prelude.{◌≡◌, Bool, true, false, ◌&&◌, List, [], ◌∷◌, ◌++◌, ℕ, get_or}
+use Rattle.std.specs.Prelude.{◌≡◌, Bool, true, false, ◌&&◌, List, [], ◌∷◌, ◌++◌, ℕ, get_or, Result, Ok, Err}
 use Rattle.std.specs.Int.Bits.{bit_and}
 use Rattle.questions.specs.Question.{covers}
 use Rattle.questions.specs.declared.question.Question.{Question}
-use Rattle.readings.specs.declared.Reading.{Reading}
-use Rattle.readings.specs.declared.Reading.TheVariants.{Counted, Written, Values, Refused}
+use Rattle.readings.specs.declared.Refusal.{Refusal}
+use Rattle.readings.specs.declared.Taken.{Taken}
+use Rattle.readings.specs.declared.Taken.TheVariants.{Counted, Written, Values}
 use Rattle.letters.specs.Letters.{Heard, S, O, U, is_good_write, decides, value_for, standing_after}
 
 -- no entry of the list passes the test
@@ -28,11 +29,11 @@ abbrev pub good_write : Heard → Bool
 good_write e = is_good_write e.question
 
 -- the reader accepted a read
-abbrev pub is_values : Reading → Bool
-is_values (Counted n) = false
-is_values Written = false
-is_values (Values m) = true
-is_values (Refused why) = false
+abbrev pub is_values : Result Taken Refusal → Bool
+is_values (Ok (Counted n)) = false
+is_values (Ok Written) = false
+is_values (Ok (Values m)) = true
+is_values (Err why) = false
 
 -- an accepted read of the written register, which covers the device
 abbrev pub decisive : (write : Question) → (a : ℕ) → Heard → Bool

@@ -3,23 +3,25 @@
 // that goes in and comes back by value.
 #![tactic(auto)]
 
-ghost use Rattle.std.specs.Prelude.{◌≡◌, max};
+ghost use Rattle.std.specs.Prelude.{◌≡◌};
 ghost use Rattle.letters.specs.Letters.{is_good_write, value_for, verdict, unheard, decided, hear_of, begun};
 ghost use Rattle.letters.specs.Span.{span_of};
 
 use masks::is_write;
-use questions::question::{HELLOALL, Question, READALL, WRITEALL, ask, is_good};
-use readings::Reading;
-use slices::{least, word_or_zero};
+use questions::question::{HELLOALL, Kind, Question, ask, is_good};
+use readings::{Refusal, Taken};
+use slices::element_or;
+use std::ops::Range;
 
 // The letters, as the certificate prints them.
-pub const SAME: u8 = 0x53;
+pub const SAME: u8 = b'S';
 
-pub const OTHER: u8 = 0x4F;
+pub const OTHER: u8 = b'O';
 
-pub const UNHEARD: u8 = 0x55;
+pub const UNHEARD: u8 = b'U';
 
-// The last good write with its mask, or where there was none yet a question that covers no device; and a letter for each of 32 devices.
+// The last good write with its mask, or where there was none yet a question that covers no device; and a letter for each of 32 devices. A letter
+// is the byte that is printed: `hear` takes any standing, and an enum of the three would ask more of whoever makes one.
 #[derive(Clone, Copy)]
 pub struct Standing {
     pub write: Question,
@@ -40,7 +42,7 @@ pub fn hear(
     standing: Standing,
     q: Question,
     mask: u16,
-    reading: Reading,
+    reading: Result<Taken, Refusal>,
     values: &[u16],
 ) -> Standing
     ensures { result ≡ hear_of standing q mask reading values.now }
@@ -48,7 +50,10 @@ pub fn hear(
     if is_good_write(q) {
         return all_unheard(q, mask);
     }
-    let Reading::Values(_) = reading else {
+    let Ok(taken) = reading else {
+        return standing;
+    };
+    let Taken::Values(_) = taken else {
         return standing;
     };
     decide(standing, q, values)
@@ -64,23 +69,21 @@ fn all_unheard(write: Question, mask: u16) -> Standing
     }
 }
 
+#[tactic(auto, unfolding(crate::specs::Letters::is_good_write))]
 fn is_good_write(q: Question) -> bool
     ensures { result ≡ is_good_write q }
 {
-    if is_write(q.kind) {
-        return is_good(q);
-    }
-    false
+    is_write(q.kind) && is_good(q)
 }
 
 // Of the values that a read handed out, a device's own: READALL's come in address order, READDEVICE has one; 0 where none was handed out.
+#[tactic(auto, unfolding(crate::specs::Letters::value_for))]
 fn value_for(q: Question, device: usize, values: &[u16]) -> u16
     ensures { result ≡ value_for q device values.now }
 {
-    if q.kind == READALL {
-        word_or_zero(values, device)
-    } else {
-        word_or_zero(values, 0)
+    match q.asks() {
+        Kind::ReadAll => element_or(values, device, 0),
+        _ => element_or(values, 0, 0),
     }
 }
 
@@ -100,51 +103,32 @@ fn decide(standing: Standing, q: Question, values: &[u16]) -> Standing
     ensures { result ≡ decided standing q values.now }
 {
     let write = standing.write;
-    let mask = standing.mask;
     if q.reg != write.reg {
         return standing;
     }
     let mut letters = standing.letters;
     let asked = span_of(q);
     let written = span_of(write);
-    let end = least(32, least(asked.end, written.end));
-    let mut at = most(asked.first, written.first);
-    while at < end {
-        letters[at] = verdict_of(mask, value_for(q, at, values), write.value);
-        at += 1;
+    let from = asked.start.max(written.start);
+    let end = asked.end.min(written.end).min(32);
+    for at in from..end {
+        letters[at] = verdict_of(standing.mask, value_for(q, at, values), write.value);
     }
     Standing {
-        write,
-        mask,
         letters,
+        ..standing
     }
 }
 
-// The devices that a question covers stand together: the first of them, and the one behind the last.
-#[derive(Clone, Copy)]
-struct Span {
-    first: usize,
-    end: usize,
-}
-
-fn span_of(q: Question) -> Span
+// The devices that a question covers, which stand together.
+#[tactic(auto, using(questions::proofs::ByKind::asked), unfolding(crate::specs::Span::span_of))]
+fn span_of(q: Question) -> Range<usize>
     ensures { result ≡ span_of q }
 {
-    let kind = q.kind;
-    let n = q.n as usize;
     let device = q.device as usize;
-    match kind {
-        HELLOALL => Span { first: 0, end: 0 },
-        WRITEALL | READALL => Span { first: 0, end: n },
-        _ => Span {
-            first: device,
-            end: device + 1,
-        },
+    match q.asks() {
+        Kind::HelloAll => 0..0,
+        Kind::WriteAll | Kind::ReadAll => 0..q.n as usize,
+        Kind::WriteDevice | Kind::ReadDevice => device..device + 1,
     }
-}
-
-fn most(a: usize, b: usize) -> usize
-    ensures { result ≡ max a b }
-{
-    if a < b { b } else { a }
 }

@@ -7,7 +7,7 @@ ghost use Rattle.lines.specs.Line.{byte_at, bytes_of};
 ghost use Rattle.lines.specs.Nibbles.{nibble_in, two_of};
 
 use characters::true_bits;
-use slices::{least, word_or_zero};
+use slices::element_or;
 
 // Byte i of a line; a word past the end reads as 0.
 pub fn byte_at(line: &[u16], i: usize) -> u8
@@ -16,8 +16,8 @@ pub fn byte_at(line: &[u16], i: usize) -> u8
     if line.len() <= i {
         return 0;
     }
-    let low = word_or_zero(line, 1 + 2 * i);
-    let high = word_or_zero(line, 2 + 2 * i);
+    let low = element_or(line, 1 + 2 * i, 0);
+    let high = element_or(line, 2 + 2 * i, 0);
     two_nibbles(low, high)
 }
 
@@ -36,10 +36,12 @@ fn byte_count(line: &[u16]) -> usize
 pub fn read_bytes(line: &[u16], out: &mut [u8])
     ensures { out.new ≡ sets out.old 0 (bytes_of line.now) }
 {
-    let many = least(byte_count(line), out.len());
+    let many = byte_count(line).min(out.len());
+    // The last part is shorter, and a part's words begin behind the first word: chunks of the line and of the lent bytes would have to be cut to that
+    // first.
     let mut k = 0;
     while k < many {
-        let part = least(many - k, 72);
+        let part = (many - k).min(72);
         let start = 1 + 2 * k;
         read_part(&line[start..start + 2 * part], &mut out[k..k + part]);
         k += part;
@@ -52,16 +54,10 @@ fn read_part(words: &[u16], out: &mut [u8])
     requires { (length words.now ≡ 2 * length out.old) × (length out.old ≤ 72) }
     ensures { out.new ≡ tabulated (two_of (nibble_in words.now)) (length out.old) 0 }
 {
-    let mut nibbles = blank_nibbles();
+    let mut nibbles = [0; 144];
     let end = words.len();
     put_nibbles(words, &mut nibbles[..end]);
     join_nibbles(&nibbles[..end], out);
-}
-
-fn blank_nibbles() -> [u8; 144]
-    ensures { length result ≡ 144 }
-{
-    [0; 144]
 }
 
 // The nibble of each word.
@@ -69,10 +65,9 @@ fn put_nibbles(words: &[u16], out: &mut [u8])
     requires { length out.old ≡ length words.now }
     ensures { out.new ≡ tabulated (nibble_in words.now) (length words.now) 0 }
 {
-    let mut k = 0;
-    while k < words.len() {
-        out[k] = true_bits(words[k]);
-        k += 1;
+    // Tried: `out.iter_mut().zip(words)`. Of what an adapter of `iter_mut` wrote, nothing is known afterwards.
+    for (k, &word) in words.iter().enumerate() {
+        out[k] = true_bits(word);
     }
 }
 
@@ -81,10 +76,8 @@ fn join_nibbles(nibbles: &[u8], out: &mut [u8])
     requires { (length nibbles.now ≡ 2 * length out.old) × ((k : ℕ) → get_or nibbles.now k 0 < 16) }
     ensures { out.new ≡ tabulated (two_of (λ i. get_or nibbles.now i 0)) (length out.old) 0 }
 {
-    let mut k = 0;
-    while k < out.len() {
-        out[k] = joined(nibbles[2 * k], nibbles[2 * k + 1]);
-        k += 1;
+    for (k, byte) in out.iter_mut().enumerate() {
+        *byte = joined(nibbles[2 * k], nibbles[2 * k + 1]);
     }
 }
 

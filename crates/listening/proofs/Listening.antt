@@ -5,16 +5,15 @@ use mathlib.Core.List.{List}
 use Prim.Native.Nat.{ℕ, ◌+◌, ◌*◌}
 use native.Mathlib.Omega.{arith}
 use lib.ListN.{take, drop}
+use Rattle.std.specs.Prelude.{Some, Ok}
 use Rattle.ground.proofs.Test.{refuted}
 use Rattle.packing.specs.Words.{words_of}
 use Rattle.jobs.specs.declared.Header.{Header}
 use Rattle.jobs.specs.declared.EntryAt.{EntryAt}
 use Rattle.jobs.specs.declared.Cursor.{Cursor}
-use Rattle.jobs.specs.declared.Next.{Next}
-use Rattle.jobs.specs.declared.Next.TheVariants as next
 use Rattle.jobs.specs.Format.{field_size}
 use Rattle.jobs.specs.Check.{words_in, size_in, good_entry, next_of}
-use Rattle.jobs.proofs.Placed.{no_other, Placed, words_there}
+use Rattle.jobs.proofs.Placed.{Said, no_other, Placed, words_there}
 use Rattle.letters.specs.declared.Standing.{Standing}
 use Rattle.listening.specs.declared.Listened.{Listened}
 use Rattle.listening.specs.Listening.{heard_as, heard_here, listened_to, nothing_heard, listen_of}
@@ -23,7 +22,7 @@ module _ (h : Header) (front : List ℕ) (s : Standing) where
   abbrev said : Bool → Listened
   said t = cond t (listened_to s (heard_here h front) (size_in h.version front)) (nothing_heard s)
 
-  pub nothing_there : (r : Next) → r ≡ next_of h front (record { at = 0 }) → ((e : EntryAt) (c : Cursor) → r ≡ next.Entry e c → ⊥) → nothing_heard s ≡ listen_of h front s
+  pub nothing_there : (r : Said) → r ≡ next_of h front (record { at = 0 }) → ((e : EntryAt) (c : Cursor) → r ≡ Ok (Some (e, c)) → ⊥) → nothing_heard s ≡ listen_of h front s
   unfolding listen_of
   nothing_there r says other = sym (ap said (refuted (good_entry h front) (λ is. absurd (no_other h front 0 is r says other))))
 

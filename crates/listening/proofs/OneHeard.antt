@@ -6,13 +6,15 @@ use Prim.Native.Nat.{ℕ, ◌*◌, ◌≤◌}
 use native.Mathlib.Omega.{arith}
 use lib.ListN.{length, take, drop}
 use lib.Seq.{sets, take_at}
+use Rattle.std.specs.Prelude.{Result}
 use Rattle.ground.proofs.Lists.{sets_front}
 use Rattle.lines.specs.Write.{at_front}
 use Rattle.packing.specs.Words.{words_of}
 use Rattle.packing.proofs.Back.{length_words}
 use Rattle.questions.specs.declared.question.Question.{Question}
 use Rattle.readings.specs.Reading.{number_of, values_taken}
-use Rattle.readings.specs.declared.Reading.{Reading}
+use Rattle.readings.specs.declared.Refusal.{Refusal}
+use Rattle.readings.specs.declared.Taken.{Taken}
 use Rattle.judging.specs.Judge.{judge_of}
 use Rattle.reader.specs.Read.{values_on, ReadDone}
 use Rattle.reader.proofs.Values.{handed_number}
@@ -35,7 +37,7 @@ values_read q line room =
     let values = values_on line (values_taken (judge_of q line 32)) in
     take_at values (drop (length values) room) (values_taken (judge_of q line 32)) (handed_number q line 32)
 
-pub heard_is : (s after : Standing) (q : Question) (mask : ℕ) (line line' room room' : List ℕ) (reading : Reading) (taken number size : ℕ) (accepted : Bool)
+pub heard_is : (s after : Standing) (q : Question) (mask : ℕ) (line line' room room' : List ℕ) (reading : Result Taken Refusal) (taken number size : ℕ) (accepted : Bool)
     → line' ≡ line → length room ≡ 32 → ReadDone q line' room room' reading → taken ≡ values_taken reading → number ≡ number_of reading → accepted ≡ is_values reading
     → after ≡ hear_of s q mask reading (take taken room') → ◌≡◌ {A = Listened} (record { number = number; standing = after; question = q; accepted = accepted; size = size }) (listened_to s (heard_as q mask line) size)
 heard_is s after q mask line line' room room' reading taken number size accepted same room-size done count is values-are next =
@@ -47,4 +49,4 @@ heard_is s after q mask line line' room room' reading taken number size accepted
     let values : take taken room' ≡ values_on line m = ap₂ take many leaves ∙ values_read q line room in
     ap₂ (λ (n : ℕ) (b : Bool). record { number = n; standing = after; question = q; accepted = b; size = size }) (is ∙ ap number_of says) (values-are ∙ ap is_values says)
     ∙ ap (λ (t : Standing). record { number = number_of (judge_of q line 32); standing = t; question = q; accepted = is_values (judge_of q line 32); size = size })
-    (next ∙ ap₂ (λ (r : Reading) (v : List ℕ). hear_of s q mask r v) says values)
+    (next ∙ ap₂ (λ (r : Result Taken Refusal) (v : List ℕ). hear_of s q mask r v) says values)

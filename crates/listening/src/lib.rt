@@ -7,15 +7,16 @@ ghost use Rattle.packing.specs.Words.{words_of};
 ghost use Rattle.letters.specs.Meaning.{is_values};
 ghost use Rattle.listening.specs.Listening.{heard_as, listened_to, nothing_heard, listen_of};
 
-use jobs::{Cursor, EntryAt, Header, Next, next_entry};
+use jobs::{Cursor, EntryAt, Header, NoJob, next_entry};
 use letters::{Standing, begin, hear};
+use numbers::{TurnedAway, number_of};
 use packing::unpack;
 use questions::question::Question;
 use reader::read::read;
-use readings::{Reading, number_of, values_taken};
+use readings::{Refusal, Taken, values_taken};
 
 // What an entry comes to: document 01's number of the reading, the letters after it, what was asked, whether values were accepted, and how
-// many bytes the entry has.
+// many bytes the entry has. Where nothing is heard the letters still stand in the answer, which a Result would leave out (`listen_of` keeps them).
 #[derive(Clone, Copy)]
 pub struct Listened {
     pub number: u8,
@@ -30,7 +31,7 @@ pub fn listen(header: Header, front: &[u8], standing: Standing) -> Listened
     ensures { result ≡ listen_of header front.now standing }
 {
     let next = next_entry(header, front, Cursor { at: 0 });
-    let Next::Entry(entry, _) = next else {
+    let Ok(Some((entry, _))) = next else {
         return hear_nothing(standing);
     };
     hear_entry(front, entry, standing)
@@ -39,12 +40,10 @@ pub fn listen(header: Header, front: &[u8], standing: Standing) -> Listened
 fn hear_nothing(standing: Standing) -> Listened
     ensures { result ≡ nothing_heard standing }
 {
-    let begun = begin();
-    let question = begun.write;
     Listened {
-        number: 14,
+        number: NoJob.number(),
         standing,
-        question,
+        question: begin().write,
         accepted: false,
         size: 0,
     }
@@ -59,9 +58,9 @@ fn hear_entry(front: &[u8], entry: EntryAt, standing: Standing) -> Listened
     let words = entry.words;
     let start = entry.start;
     let end = start + 2 * words;
-    let mut line = blank_line();
+    let mut line: [u16; 140] = blank();
     unpack(&front[start..end], &mut line);
-    let mut values = blank_values();
+    let mut values: [u16; 32] = blank();
     let reading = read(q, &line[..words], &mut values);
     let taken = values_taken(reading);
     let after = hear(standing, q, entry.mask, reading, &values[..taken]);
@@ -76,26 +75,15 @@ fn hear_entry(front: &[u8], entry: EntryAt, standing: Standing) -> Listened
 }
 
 // Whether the reader accepted a read.
-fn has_values(reading: Reading) -> bool
+fn has_values(reading: Result<Taken, Refusal>) -> bool
     ensures { result ≡ is_values reading }
 {
-    match reading {
-        Reading::Counted(_) => false,
-        Reading::Written => false,
-        Reading::Values(_) => true,
-        Reading::Refused(_) => false,
-    }
+    matches!(reading, Ok(Taken::Values(_)))
 }
 
-// Written where they are used, these would be laid word by word for each entry.
-fn blank_line() -> [u16; 140]
-    ensures { length result ≡ 140 }
+// Written where they are used, the line and the values would be laid word by word for each entry.
+fn blank<const N: usize>() -> [u16; N]
+    ensures { length result ≡ N }
 {
-    [0; 140]
-}
-
-fn blank_values() -> [u16; 32]
-    ensures { length result ≡ 32 }
-{
-    [0; 32]
+    [0; N]
 }

@@ -2,53 +2,35 @@
 // rules, the version among them, and nothing but good entries behind it.
 #![tactic(auto)]
 
+pub mod job;
+
 ghost use Rattle.std.specs.Prelude.{◌≡◌, ◌≤◌, length, drop};
 ghost use Rattle.jobs.specs.Format.{head_size};
 ghost use Rattle.jobs.specs.Rules.{good_header};
-ghost use Rattle.jobs.specs.Check.{marked, header_in, good_entries, opened_of};
+ghost use Rattle.jobs.specs.Check.{header_in, good_entries, opened_of};
 
 use jobs::entry::{is_good_entry, size_in};
-use jobs::{Header, Opened, head_size};
+use jobs::{Header, NoJob, head_size};
 use packing::join;
 
 // The whole file looked through: FILE is given exactly where it is no job file.
-pub fn open(file: &[u8]) -> Opened
+#[tactic(auto, using(jobs::proofs::Sizes::head_bounds, crate::proofs::Marked::begins), unfolding(jobs::specs::Check::opened_of, jobs::specs::Check::good_file))]
+pub fn open(file: &[u8]) -> Result<Header, NoJob>
     ensures { result ≡ opened_of file.now }
 {
-    if 65536 < file.len() {
-        return Opened::File;
-    }
-    if file.len() < head_size() {
-        return Opened::File;
-    }
-    if !is_marked(file) {
-        return Opened::File;
+    if 65536 < file.len() || file.len() < head_size() || !file.starts_with(b"BMC") {
+        return Err(NoJob);
     }
     let header = header_in(file);
-    if !is_good_header(header) {
-        return Opened::File;
+    if is_good_header(header) && are_good_entries(header, file) {
+        Ok(header)
+    } else {
+        Err(NoJob)
     }
-    if !are_good_entries(header, file) {
-        return Opened::File;
-    }
-    Opened::Job(header)
-}
-
-// The mark BMC.
-fn is_marked(file: &[u8]) -> bool
-    requires { 3 ≤ length file.now }
-    ensures { result ≡ marked file.now }
-{
-    if file[0] != 0x42 {
-        return false;
-    }
-    if file[1] != 0x4D {
-        return false;
-    }
-    file[2] == 0x43
 }
 
 // The header, as it stands there.
+#[tactic(auto, using(jobs::proofs::Sizes::head_bounds))]
 fn header_in(file: &[u8]) -> Header
     requires { head_size ≤ length file.now }
     ensures { result ≡ header_in file.now }
@@ -61,22 +43,13 @@ fn header_in(file: &[u8]) -> Header
     }
 }
 
+#[tactic(auto, using(questions::proofs::Within::within), unfolding(jobs::specs::Rules::good_header))]
 fn is_good_header(header: Header) -> bool
     ensures { result ≡ good_header header }
 {
-    if header.version < 1 {
-        return false;
-    }
-    if 2 < header.version {
-        return false;
-    }
-    if header.n < 1 {
-        return false;
-    }
-    if 32 < header.n {
-        return false;
-    }
-    header.alive <= 1
+    let version = (1..=2).contains(&header.version);
+    let n = (1..=32).contains(&header.n);
+    version && n && header.alive <= 1
 }
 
 // Whether nothing but good entries stands behind the header.
@@ -84,12 +57,12 @@ fn are_good_entries(header: Header, file: &[u8]) -> bool
     requires { head_size ≤ length file.now }
     ensures { result ≡ good_entries header (drop head_size file.now) }
 {
-    let mut at = head_size();
-    while at < file.len() {
-        if !is_good_entry(header, &file[at..]) {
+    let mut rest = &file[head_size()..];
+    while !rest.is_empty() {
+        if !is_good_entry(header, rest) {
             return false;
         }
-        at = at + size_in(header.version, &file[at..]);
+        rest = &rest[size_in(header.version, rest)..];
     }
     true
 }

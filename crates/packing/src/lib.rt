@@ -5,22 +5,19 @@ ghost use Rattle.std.specs.Prelude.{◌≡◌, ◌+◌, ◌*◌, ◌/◌, ◌<�
 ghost use Rattle.std.proofs.lemmas.List.Edits.{sets};
 ghost use Rattle.packing.specs.Words.{word_at, words_of, as_bytes, with_word, LineTaken};
 
-use slices::least;
-
 // The words of some bytes at the front of the lent words, as far as there is room; the rest stays. An odd last byte counts for nothing.
 pub fn unpack(bytes: &[u8], out: &mut [u16])
     ensures { out.new ≡ sets out.old 0 (words_of bytes.now) }
 {
-    let words = least(bytes.len() / 2, out.len());
-    let mut k = 0;
-    while k < words {
-        out[k] = word_at(bytes, k);
-        k += 1;
+    let words = (bytes.len() / 2).min(out.len());
+    // Tried: `zip` with `bytes.chunks_exact(2)`. Of what an adapter of `iter_mut` wrote, nothing is known afterwards.
+    for (k, word) in out[..words].iter_mut().enumerate() {
+        *word = word_at(bytes, k);
     }
 }
 
 // A line's words at the front of the lent words, and how many there are. A line of an odd number of bytes, or of more words than are lent,
-// is none: 0.
+// is none: 0. So is a line of no words, and those that take lines read both alike: an `Option` would tell apart what `LineTaken` does not.
 pub fn take_line(bytes: &[u8], words: &mut [u16]) -> usize
     ensures { LineTaken bytes.now words.old words.new result }
 {
@@ -45,18 +42,16 @@ fn word_at(bytes: &[u8], k: usize) -> u16
 pub fn join(low: u8, high: u8) -> u16
     ensures { result ≡ low + 256 * high }
 {
-    low as u16 + 256 * high as u16
+    u16::from_le_bytes([low, high])
 }
 
 // The bytes of some words at the front of the lent bytes, as many words as there is room for; the rest stays, an odd last byte too.
 pub fn pack(words: &[u16], out: &mut [u8])
     ensures { out.new ≡ sets out.old 0 (as_bytes (take (length out.old / 2) words.now)) }
 {
-    let fitting = least(words.len(), out.len() / 2);
-    let mut k = 0;
-    while k < fitting {
-        put_bytes(out, k, words[k]);
-        k += 1;
+    let fitting = words.len().min(out.len() / 2);
+    for (k, &word) in words[..fitting].iter().enumerate() {
+        put_bytes(out, k, word);
     }
 }
 
@@ -64,8 +59,9 @@ fn put_bytes(out: &mut [u8], k: usize, word: u16)
     requires { 2 * k + 1 < length out.old }
     ensures { out.new ≡ with_word out.old k word }
 {
-    out[2 * k] = (word % 256) as u8;
-    out[2 * k + 1] = (word / 256) as u8;
+    let [low, high] = word.to_le_bytes();
+    out[2 * k] = low;
+    out[2 * k + 1] = high;
 }
 
 // Bytes stored from a place on, as far as there is room; the rest stays.
@@ -75,10 +71,9 @@ pub fn store(out: &mut [u8], at: usize, bytes: &[u8])
     if out.len() <= at {
         return;
     }
-    let fitting = least(bytes.len(), out.len() - at);
-    let mut i = 0;
-    while i < fitting {
+    let fitting = bytes.len().min(out.len() - at);
+    // Tried: `copy_from_slice`. It leaves `memmove` to the linker of a firmware, which is promised that `memcpy` and `memset` are enough.
+    for i in 0..fitting {
         out[at + i] = bytes[i];
-        i += 1;
     }
 }

@@ -19,7 +19,9 @@ use Rattle.lines.proofs.Line.{length_bytes}
 use Rattle.judging.proofs.Accepted.{some_values, values_carried}
 use Rattle.reader.specs.Read.{values_on}
 use Rattle.reader.proofs.Values.{values_number}
-use Rattle.parts.specs.Part.{order_of, values_found, has_part, above, start_of, part_of}
+use Rattle.std.specs.Prelude.{Some, None}
+use Rattle.std.proofs.lemmas.Option.{cond_some}
+use Rattle.parts.specs.Part.{order_of, values_found, has_part, above, start_of, part_of, place_found, part_found}
 
 order_below : (q : Question) (a : ℕ) → good_question q ≡ true → 3 ≤ q.kind → covers q a ≡ true → order_of q a < (shape_of q).values
 unfolding covers order_of shape_of
@@ -54,6 +56,24 @@ module _ (q : Question) (line : List ℕ) (a : ℕ) where
 
   pub start_not_put_to : covers q a ≡ false → 0 ≡ start_of q line a
   start_not_put_to e = without_start (none_put_to e)
+
+  without_place : has_part q line a ≡ false → None ≡ place_found q line a
+  without_place e = sym (ap (λ (t : Bool). cond t (Some (start_of q line a)) None) e)
+
+  without_found : has_part q line a ≡ false → None ≡ part_found q line a
+  without_found e = sym (ap (λ (t : Bool). cond t (Some (part_of q line a)) None) e)
+
+  pub no_place : values_found q line ≡ 0 → None ≡ place_found q line a
+  no_place e = without_place (none_found e)
+
+  pub place_not_put_to : covers q a ≡ false → None ≡ place_found q line a
+  place_not_put_to e = without_place (none_put_to e)
+
+  pub none_taken : values_found q line ≡ 0 → None ≡ part_found q line a
+  none_taken e = without_found (none_found e)
+
+  pub none_covered : covers q a ≡ false → None ≡ part_found q line a
+  none_covered e = without_found (none_put_to e)
 
   pub no_part : values_found q line ≡ 0 → [] ≡ part_of q line a
   no_part e = without_part (none_found e)
@@ -95,6 +115,12 @@ module _ (q : Question) (line : List ℕ) (a : ℕ) (some : 0 < values_found q l
         within = omega (arith, start, c.values, order, c.taken.words, (read_shape q c.read).words);
       }
 
+  pub place_there : Some (start_of q line a) ≡ place_found q line a
+  place_there = sym (ap (λ (t : Bool). cond t (Some (start_of q line a)) None) has_part_lem)
+
+  pub found_there : Some (part_of q line a) ≡ part_found q line a
+  found_there = sym (ap (λ (t : Bool). cond t (Some (part_of q line a)) None) has_part_lem)
+
   pub part_there : take 4 (drop (start_of q line a) line) ≡ part_of q line a
   unfolding part_of
   part_there = sym (ap (λ (t : Bool). cond t (take 4 (drop (start_of q line a) line)) []) has_part_lem)
@@ -130,3 +156,37 @@ module _ (q : Question) (line : List ℕ) (a : ℕ) where
       let put = starts h in
       let at = inside q line a put.0 put.1 in
       record { part = part_there q line a put.0 put.1; within = at.within; near = omega (arith, at.start, at.few) }
+
+  start_some : has_part q line a ≡ true → start_of q line a ≡ 5 + 4 * above q line a
+  unfolding start_of
+  start_some e = ap (λ (t : Bool). cond t (5 + 4 * above q line a) 0) e
+
+  -- a place that is found is that one, and the part is found with it
+  pub record PlaceAt (start : ℕ) : Type 0 where
+    pub is : start ≡ start_of q line a
+    pub some : 0 < start_of q line a
+    pub found : Some (part_of q line a) ≡ part_found q line a
+
+  pub place_at : (start : ℕ) → place_found q line a ≡ Some start → PlaceAt start
+  place_at start e =
+      let test = cond_some (has_part q line a) (start_of q line a) start e in
+      record {
+        is = sym test.1;
+        some = omega (arith, start_some test.0);
+        found = sym (ap (λ (t : Bool). cond t (Some (part_of q line a)) None) test.0);
+      }
+
+  -- where none is found, there is no part either
+  pub place_none : place_found q line a ≡ None → None ≡ part_found q line a
+  place_none e = by_test (has_part q line a) refl
+    where
+      by_test : (t : Bool) → has_part q line a ≡ t → None ≡ part_found q line a
+      by_test true is = absurd (let both : Some (start_of q line a) ≡ None = sym (ap (λ (t : Bool). cond t (Some (start_of q line a)) None) is) ∙ e in let z : ◌≡◌ {A = ℕ} 0 1 = cc in omega arith)
+      by_test false is = without_found q line a is
+
+  pub no_start_no_place : start_of q line a ≡ 0 → place_found q line a ≡ None
+  no_start_no_place e = by_test (has_part q line a) refl
+    where
+      by_test : (t : Bool) → has_part q line a ≡ t → place_found q line a ≡ None
+      by_test true is = absurd (omega (arith, start_some is))
+      by_test false is = sym (without_place q line a is)

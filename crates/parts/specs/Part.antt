@@ -1,5 +1,5 @@
 -- The second call: which part of a line carries a device's register.
-use Rattle.std.specs.Prelude.{Bool, cond, ◌&&◌, List, [], ℕ, suc, ◌+◌, ◌*◌, ltb, eqb, length, take, drop}
+use Rattle.std.specs.Prelude.{Bool, cond, Option, Some, None, ◌&&◌, List, [], ℕ, suc, ◌+◌, ◌*◌, ltb, eqb, length, take, drop}
 use Rattle.questions.specs.Question.{read_all, covers}
 use Rattle.questions.specs.Shape.{shape_of}
 use Rattle.questions.specs.declared.question.Question.{Question}
@@ -28,6 +28,13 @@ above q line a = length (drop (suc (order_of q a)) (values_on line (values_found
 unfoldable pub start_of : Question → List ℕ → ℕ → ℕ
 start_of q line a = cond (has_part q line a) (5 + 4 * above q line a) 0
 
--- the second call: the four characters that carry a device's register; nothing where there is no such part
+-- the four characters from there on; nothing where there is no such part
 unfoldable pub part_of : Question → List ℕ → ℕ → List ℕ
 part_of q line a = cond (has_part q line a) (take 4 (drop (start_of q line a) line)) []
+
+-- the second call: the place, and the four characters that carry a device's register, where there is such a part
+abbrev pub place_found : Question → List ℕ → ℕ → Option ℕ
+place_found q line a = cond (has_part q line a) (Some (start_of q line a)) None
+
+abbrev pub part_found : Question → List ℕ → ℕ → Option (List ℕ)
+part_found q line a = cond (has_part q line a) (Some (part_of q line a)) None

@@ -1,38 +1,35 @@
 // The second call: the part of an accepted line that carries a named device's register (document 01, below "Commands and answers").
 #![tactic(auto)]
 
-ghost use Rattle.std.specs.Prelude.{◌≡◌};
-ghost use Rattle.parts.specs.Part.{order_of, values_found, start_of, part_of};
+ghost use Rattle.std.specs.Prelude.{◌≡◌, option_copied};
+ghost use Rattle.parts.specs.Part.{order_of, values_found, place_found, part_found};
 
-use questions::question::{Question, READALL, is_covered};
+use questions::question::{Kind, Question, is_covered};
 use reader::read::read;
 use readings::values_taken;
 
-// The part of the line whose four characters carry this device's register, where the line is accepted; else an empty part.
-pub fn register_part<'a>(q: Question, line: &'a [u16], device: u8) -> &'a [u16]
-    ensures { result.now ≡ part_of q line.now device }
+// The part of the line whose four characters carry this device's register, where the line is accepted.
+pub fn register_part<'a>(q: Question, line: &'a [u16], device: u8) -> Option<&'a [u16]>
+    ensures { option_copied result ≡ part_found q line.now device }
 {
-    let start = part_start(q, line, device);
-    if start == 0 {
-        return &line[..0];
-    }
+    let start = part_start(q, line, device)?;
     let end = start + 4;
-    &line[start..end]
+    Some(&line[start..end])
 }
 
-// The place of that part's first word; 0, where a preamble stands, if there is no such part.
-pub fn part_start(q: Question, line: &[u16], device: u8) -> usize
-    ensures { result ≡ start_of q line.now device }
+// The place of that part's first word.
+pub fn part_start(q: Question, line: &[u16], device: u8) -> Option<usize>
+    ensures { result ≡ place_found q line.now device }
 {
     let m = values_found(q, line);
     if m == 0 {
-        return 0;
+        return None;
     }
     if !is_covered(q, device) {
-        return 0;
+        return None;
     }
     let k = order_of(q, device);
-    5 + 4 * (m - 1 - k)
+    Some(5 + 4 * (m - 1 - k))
 }
 
 // How many values an accepted line carries: there is room for any answer's.
@@ -44,12 +41,12 @@ fn values_found(q: Question, line: &[u16]) -> usize
 }
 
 // How many devices with values in the answer stand below this one.
+#[tactic(auto, unfolding(crate::specs::Part::order_of))]
 fn order_of(q: Question, device: u8) -> usize
     ensures { result ≡ order_of q device }
 {
-    if q.kind == READALL {
-        device as usize
-    } else {
-        0
+    match q.asks() {
+        Kind::ReadAll => device as usize,
+        _ => 0,
     }
 }

@@ -1,4 +1,5 @@
 -- One device's step: what its two ways through leave.
+use Rattle.std.specs.Prelude.{Option, None}
 use mathlib.Core.Path.{◌≡◌, sym, ap, ap₂, ◌∙◌}
 use mathlib.Core.Bool.{Bool, true, false, cond, ◌&&◌}
 use mathlib.Core.Logic.{⊎_elim}
@@ -22,8 +23,7 @@ use Rattle.hearing.proofs.Hearing.{heard_good, heard_n, room_for_one, place_belo
 use Rattle.underway.specs.TakeUp.{may_carry, possible, met_bytes, handed_bytes, is_met}
 use Rattle.passage.specs.Acting.{before, met, acts, handed, handed_on}
 use Rattle.passage.specs.Pass.{change_asked, change_of, Passed}
-use Rattle.passage.specs.declared.pass.Change.{Change}
-use Rattle.passage.specs.declared.pass.Change.TheVariants.{Nothing}
+use Rattle.passage.specs.declared.pass.Store.{Store}
 use Rattle.passage.proofs.EqualLength.{handed_size}
 
 -- a line put over one of its own length
@@ -38,11 +38,11 @@ module _ (n k : ℕ) (registers line : List ℕ) where
   unfolding handed_on
   left_unchanged e = ap (λ (t : Bool). cond t (handed n k line (get_or registers (heard n k line).reg 0)) line) e
 
-  pub nothing_stored : acts n k line ≡ false → change_of n k line ≡ Nothing
+  pub nothing_stored : acts n k line ≡ false → change_of n k line ≡ None
   unfolding change_of
-  nothing_stored e = ap (λ (t : Bool). cond t (change_asked (heard n k line)) Nothing) e
+  nothing_stored e = ap (λ (t : Bool). cond t (change_asked (heard n k line)) None) e
 
-  pub not_acting : (after : List ℕ) → acts n k line ≡ false → after ≡ line → Passed n k registers line after Nothing
+  pub not_acting : (after : List ℕ) → acts n k line ≡ false → after ≡ line → Passed n k registers line after None
   not_acting after e unchanged = record { says = sym (nothing_stored e); leaves = unchanged ∙ sym (left_unchanged e) }
 
   pub no_place : is_place n k ≡ false → acts n k line ≡ false
@@ -80,13 +80,13 @@ module _ (n k : ℕ) (registers line : List ℕ) where
         ∙ ap (λ (x : Question). same line (line_of (met_bytes x k (carried x.kind k) line))) is
         ∙ sym (ap (λ (t : Bool). t && same line (met n k line)) place)
 
-    pub passed_by : (own : ℕ) (after : List ℕ) (r : Change) → own ≡ get_or registers q.reg 0 → acts n k line ≡ true
+    pub passed_by : (own : ℕ) (after : List ℕ) (r : Option Store) → own ≡ get_or registers q.reg 0 → acts n k line ≡ true
         → after ≡ out_of (handed_bytes q k own m line) line → r ≡ change_asked q → Passed n k registers line after r
     unfolding handed_on handed change_of
     passed_by own after r holds e leaves says =
         let mine = get_or registers (heard n k line).reg 0 in
         record {
-          says = says ∙ ap change_asked is ∙ sym (ap (λ (t : Bool). cond t (change_asked (heard n k line)) Nothing) e);
+          says = says ∙ ap change_asked is ∙ sym (ap (λ (t : Bool). cond t (change_asked (heard n k line)) None) e);
           leaves =
               leaves ∙ ap₂ (λ (v x : ℕ). out_of (handed_bytes q k v x line) line) holds values
               ∙ ap (λ (x : Question). out_of (handed_bytes x k (get_or registers x.reg 0) (carried x.kind k) line) line) is

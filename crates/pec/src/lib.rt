@@ -4,7 +4,7 @@
 mod moved;
 mod table;
 
-ghost use Rattle.std.specs.Prelude.{◌≡◌, drop};
+ghost use Rattle.std.specs.Prelude.{◌≡◌};
 ghost use Rattle.std.specs.Int.Bits.{bit_xor};
 ghost use Rattle.remainder.specs.Register.{run};
 ghost use Rattle.pec.specs.Pec.{byte_step, remainder_table, pec_of};
@@ -13,7 +13,8 @@ ghost use Rattle.pec.specs.Moved.{moved, moved_table};
 use moved::MOVED;
 use table::TABLE;
 
-// The remainders of the 256 bytes. A loop asks for them once: each use of a table lays it out anew.
+// The remainders of the 256 bytes. A loop asks for them once: each use of a table lays it out anew. Document 01 has a table's rule proved once over
+// the whole table: so each of the two has a function with its rule. Tried in place: the rule was proved anew at each use.
 fn remainders() -> [u8; 256]
     ensures { result ≡ remainder_table }
 {
@@ -57,13 +58,15 @@ pub fn pec(bytes: &[u8]) -> u8
 {
     let remainders = remainders();
     if bytes.len() < 4 {
-        return take_in_from(&remainders, 0, bytes, 0);
+        return take_in_all(&remainders, 0, bytes);
     }
     let moved = moved_states();
     let mut a = bytes[0];
     let mut b = bytes[1];
     let mut c = bytes[2];
     let mut d = bytes[3];
+    // Four states, each with a byte of its own: a block of `chunks_exact` would be read by places just so, and what is left behind the last block is
+    // taken in from the same place on.
     let mut i = 4;
     while 4 <= bytes.len() - i {
         a = bring_on(&moved, a, bytes[i]);
@@ -72,20 +75,16 @@ pub fn pec(bytes: &[u8]) -> u8
         d = bring_on(&moved, d, bytes[i + 3]);
         i += 4;
     }
-    let folded = take_in_from(&remainders, 0, &[a, b, c, d], 0);
-    take_in_from(&remainders, folded, bytes, i)
+    let folded = take_in_all(&remainders, 0, &[a, b, c, d]);
+    take_in_all(&remainders, folded, &bytes[i..])
 }
 
-// The bytes from a place on taken in one by one.
-fn take_in_from(table: &[u8; 256], crc: u8, bytes: &[u8], from: usize) -> u8
+// The PEC so far, with some more bytes taken in one by one.
+fn take_in_all(table: &[u8; 256], crc: u8, bytes: &[u8]) -> u8
     requires { table.now ≡ remainder_table }
-    ensures { result ≡ run byte_step crc (drop from bytes.now) }
+    ensures { result ≡ run byte_step crc bytes.now }
 {
-    let mut crc = crc;
-    let mut i = from;
-    while i < bytes.len() {
-        crc = take_in(table, crc, bytes[i]);
-        i += 1;
-    }
-    crc
+    bytes
+        .iter()
+        .fold(crc, |crc, &byte| take_in(table, crc, byte))
 }

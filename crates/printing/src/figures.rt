@@ -1,52 +1,56 @@
 // What a line of text is made of: a byte, some bytes, a number in decimal figures. A byte beyond the lent memory is counted and not written.
 ghost use Rattle.std.specs.Prelude.{◌∷◌, [], ◌≤◌, length};
 ghost use Rattle.printing.specs.Text.{decimal, figure};
-ghost use Rattle.printing.specs.Print.{StoredAt};
+ghost use Rattle.printing.specs.Print.{Laid};
 
-// Beyond the end nothing is written, and the byte is counted all the same.
-pub(crate) fn put(text: &mut [u8], at: usize, byte: u8) -> usize
-    requires { at ≤ 600000 }
-    ensures { StoredAt text.old at (byte ∷ []) text.new result }
-{
-    if text.len() <= at {
-        return at + 1;
-    }
-    text[at] = byte;
-    at + 1
+// The lent memory with the place where the next byte goes, which counts on beyond the end. Each method asks for a place far below the largest number,
+// so that counting on cannot pass it; what a line takes differs, and one bound in the type would not hold behind the last line.
+#[derive(Drop)]
+pub(crate) struct Sheet<'a> {
+    pub(crate) text: &'a mut [u8],
+    pub(crate) at: usize,
 }
 
-pub(crate) fn put_all(text: &mut [u8], at: usize, bytes: &[u8]) -> usize
-    requires { (at ≤ 500000) × (length bytes.now ≤ 100) }
-    ensures { StoredAt text.old at bytes.now text.new result }
-{
-    let mut end = at;
-    let mut i = 0;
-    while i < bytes.len() {
-        end = put(text, end, bytes[i]);
-        i += 1;
+impl Sheet<'_> {
+    // Beyond the end nothing is written, and the byte is counted all the same.
+    pub(crate) fn put(&mut self, byte: u8)
+        requires { self.old.at ≤ 600000 }
+        ensures { Laid self.old (byte ∷ []) self.new }
+    {
+        if self.at < self.text.len() {
+            self.text[self.at] = byte;
+        }
+        self.at += 1;
     }
-    end
-}
 
-// A number of at most five figures, without zeros in front.
-pub(crate) fn put_number(text: &mut [u8], at: usize, v: usize) -> usize
-    requires { at ≤ 400000 }
-    ensures { StoredAt text.old at (decimal v) text.new result }
-{
-    let a = put_figure(text, at, 10000, v);
-    let b = put_figure(text, a, 1000, v);
-    let c = put_figure(text, b, 100, v);
-    let d = put_figure(text, c, 10, v);
-    put(text, d, (0x30 + v % 10) as u8)
-}
-
-// One figure of a number, unless it would be a zero in front.
-fn put_figure(text: &mut [u8], at: usize, worth: usize, v: usize) -> usize
-    requires { (at ≤ 500000) × (1 ≤ worth) }
-    ensures { StoredAt text.old at (figure worth v) text.new result }
-{
-    if v < worth {
-        return at;
+    pub(crate) fn put_all(&mut self, bytes: &[u8])
+        requires { (self.old.at ≤ 500000) × (length bytes.now ≤ 100) }
+        ensures { Laid self.old bytes.now self.new }
+    {
+        for byte in bytes {
+            self.put(*byte);
+        }
     }
-    put(text, at, (0x30 + v / worth % 10) as u8)
+
+    // A number of at most five figures, without zeros in front.
+    pub(crate) fn put_number(&mut self, v: usize)
+        requires { self.old.at ≤ 400000 }
+        ensures { Laid self.old (decimal v) self.new }
+    {
+        self.put_figure(10000, v);
+        self.put_figure(1000, v);
+        self.put_figure(100, v);
+        self.put_figure(10, v);
+        self.put((0x30 + v % 10) as u8);
+    }
+
+    // One figure of a number, unless it would be a zero in front.
+    fn put_figure(&mut self, worth: usize, v: usize)
+        requires { (self.old.at ≤ 500000) × (1 ≤ worth) }
+        ensures { Laid self.old (figure worth v) self.new }
+    {
+        if worth <= v {
+            self.put((0x30 + v / worth % 10) as u8);
+        }
+    }
 }

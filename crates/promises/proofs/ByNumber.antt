@@ -5,14 +5,11 @@ use mathlib.Core.Logic.{inl, inr}
 use mathlib.Core.List.{List, [], ◌∷◌}
 use Prim.Native.Nat.{ℕ, ◌<◌}
 use native.Mathlib.Omega.{arith}
-use Rattle.scanning.specs.declared.Place.{Place}
-use Rattle.scanning.specs.declared.Place.TheVariants.{At, Nowhere}
+use Rattle.std.specs.Prelude.{Option, Some, None, Result, Ok, Err}
 use Rattle.readings.specs.Reading.{refusal_number, number_of}
-use Rattle.readings.specs.FirstFault.{given_unless, first_fault, said}
+use Rattle.readings.specs.FirstFault.{Said, given_unless, first_fault, said}
 use Rattle.readings.specs.declared.Refusal.{Refusal}
-use Rattle.readings.specs.declared.Reading.{Reading}
-use Rattle.readings.specs.declared.Screened.{Screened}
-use Rattle.readings.specs.declared.Screened.TheVariants.{Passed, Faulty}
+use Rattle.readings.specs.declared.Taken.{Taken}
 use Rattle.judging.specs.Judge.{given_at}
 use Rattle.promises.specs.ByNumber.{Row, row, NumberDue}
 
@@ -36,30 +33,30 @@ below_256 (row number given ∷ rows) due small (inr is) = below_256 rows due sm
 
 -- ---- a check that is given exactly where a row is
 
-abbrev pub Says : Row → Screened → Type 0
-Says (row number given) Passed = given → ⊥
-Says (row number given) (Faulty why) = (refusal_number why ≡ number) × given
+abbrev pub Says : Row → Said → Type 0
+Says (row number given) (Ok pass) = given → ⊥
+Says (row number given) (Err why) = (refusal_number why ≡ number) × given
 
 pub asks : (number : ℕ) (given : Type 0) (why : Refusal) (t : Bool) → refusal_number why ≡ number → (t ≡ false → given) → (t ≡ true → given → ⊥)
     → Says (row number given) (given_unless why t)
 asks number given why true same fails passes = passes refl
 asks number given why false same fails passes = (same, fails refl)
 
-pub looks : (number : ℕ) (given : Type 0) (why : ℕ → Refusal) (p : Place) → ((i : ℕ) → refusal_number (why i) ≡ number)
-    → ((i : ℕ) → p ≡ At i → given) → (p ≡ Nowhere → given → ⊥) → Says (row number given) (given_at why p)
-looks number given why (At i) same fails passes = (same i, fails i refl)
-looks number given why Nowhere same fails passes = passes refl
+pub looks : (number : ℕ) (given : Type 0) (why : ℕ → Refusal) (p : Option ℕ) → ((i : ℕ) → refusal_number (why i) ≡ number)
+    → ((i : ℕ) → p ≡ Some i → given) → (p ≡ None → given → ⊥) → Says (row number given) (given_at why p)
+looks number given why (Some i) same fails passes = (same i, fails i refl)
+looks number given why None same fails passes = passes refl
 
 -- ---- checks and rows, one by one
 
-pub data Alike : List Row → List Screened → Type 1 where
+pub data Alike : List Row → List Said → Type 1 where
   end : Alike [] []
-  next : {r : Row} {s : Screened} {rows : List Row} {checks : List Screened} → Says r s → Alike rows checks → Alike (r ∷ rows) (s ∷ checks)
+  next : {r : Row} {s : Said} {rows : List Row} {checks : List Said} → Says r s → Alike rows checks → Alike (r ∷ rows) (s ∷ checks)
 
-pub first_given : (rows : List Row) (checks : List Screened) → Alike rows checks → (taken : Reading) → number_of taken ≡ 0
+pub first_given : (rows : List Row) (checks : List Said) → Alike rows checks → (taken : Result Taken Refusal) → number_of taken ≡ 0
     → NumberDue rows (number_of (said (first_fault checks) taken))
 first_given [] [] end taken zero = zero
 first_given [] (check ∷ checks) alike taken zero = elim alike [ ]
 first_given (row number given ∷ rows) [] alike taken zero = elim alike [ ]
-first_given (row number given ∷ rows) (Passed ∷ checks) (next says others) taken zero = inr (says, first_given rows checks others taken zero)
-first_given (row number given ∷ rows) (Faulty why ∷ checks) (next says others) taken zero = inl (says.1, says.0)
+first_given (row number given ∷ rows) (Ok pass ∷ checks) (next says others) taken zero = inr (says, first_given rows checks others taken zero)
+first_given (row number given ∷ rows) (Err why ∷ checks) (next says others) taken zero = inl (says.1, says.0)

@@ -13,7 +13,8 @@ use Rattle.packing.specs.Words.{as_bytes}
 use Rattle.questions.specs.Question.{good_question}
 use Rattle.questions.specs.declared.question.Question as asked
 use Rattle.commands.specs.Command.{command_line, issued_of, issued_number}
-use Rattle.commands.specs.declared.Issued.TheVariants.{Words, Question, Room}
+use Rattle.commands.specs.Command as command
+use Rattle.std.specs.Prelude.{Ok, Err}
 use Rattle.c_commands.specs.CommandBytes.{packed_issued, CommandBytesDone}
 use Rattle.promises.specs.ByNumber.{packed_number}
 use Rattle.promises.specs.CSideCommands.{CSideCommands}
@@ -22,10 +23,10 @@ module _ (q : asked.Question) (before after : List ℕ) (r : ℕ) (done : Comman
   abbrev Fits : Type 0
   Fits = length (command_line q) ≤ length before / 2
 
-  is_issued : good_question q ≡ true → Fits → issued_of q (length before / 2) ≡ Words (length (command_line q))
+  is_issued : good_question q ≡ true → Fits → issued_of q (length before / 2) ≡ Ok (length (command_line q))
   unfolding issued_of
   is_issued good room =
-      ap₂ (λ (t u : Bool). cond t (cond u (Words (length (command_line q))) Room) Question) good
+      ap₂ (λ (t u : Bool). cond t (cond u (Ok (length (command_line q))) (Err command.room)) (Err command.bad_question)) good
       (le-leb (length (command_line q)) (length before / 2) (omega arith))
 
   was_due : packed_number r ≡ 0 → (good_question q ≡ true) × Fits
@@ -33,7 +34,7 @@ module _ (q : asked.Question) (before after : List ℕ) (r : ℕ) (done : Comman
   was_due accepted = by_tests (good_question q) refl (leb (length (command_line q)) (length before / 2)) refl done.says
     where
       by_tests : (t : Bool) → good_question q ≡ t → (u : Bool) → leb (length (command_line q)) (length before / 2) ≡ u
-          → r ≡ packed_issued (cond t (cond u (Words (length (command_line q))) Room) Question) → (good_question q ≡ true) × Fits
+          → r ≡ packed_issued (cond t (cond u (Ok (length (command_line q))) (Err command.room)) (Err command.bad_question)) → (good_question q ≡ true) × Fits
       by_tests true good true fits e = (good, omega (arith, leb-true (length (command_line q)) (length before / 2) fits))
       by_tests true good false fits e = absurd (omega arith)
       by_tests false bad u fits e = absurd (omega arith)

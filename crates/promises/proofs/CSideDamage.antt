@@ -4,6 +4,7 @@ use mathlib.Core.List.{List}
 use Prim.Native.Nat.{ℕ, ◌*◌, ◌/◌, ◌≤◌}
 use native.Mathlib.Omega.{arith}
 use lib.ListN.{length, replicate, length-replicate}
+use Rattle.std.specs.Prelude.{Ok}
 use Rattle.remainder.specs.Turned.{turned, weight, Bytes}
 use Rattle.lines.specs.Write.{at_front}
 use Rattle.packing.specs.Words.{words_of, as_bytes}
@@ -11,7 +12,7 @@ use Rattle.packing.proofs.Back.{length_bytes, length_words, bytes_back}
 use Rattle.questions.specs.declared.question.Question.{Question}
 use Rattle.questions.proofs.ByKind.{of_read}
 use Rattle.readings.specs.Reading.{number_of, values_taken}
-use Rattle.readings.specs.declared.Reading.TheVariants.{Values}
+use Rattle.readings.specs.declared.Taken.TheVariants.{Values}
 use Rattle.judging.specs.Judge.{judge_of}
 use Rattle.reader.specs.Read.{values_on}
 use Rattle.acceptance.specs.Answer.Fitting.{read}
@@ -29,7 +30,7 @@ use Rattle.promises.proofs.BytesTurned.{bytes_turned, weight_bytes}
 
 module _ (q : Question) (values : List ℕ) (all : ReadsAll q values) where
   taken : (before after : List ℕ) (r : ℕ) → length (as_bytes values) ≤ length before → ReadBytesDone q (as_bytes (answer_line q values)) before after r
-      → PackedAs r (Values q.n) × (after ≡ at_front (as_bytes values) before)
+      → PackedAs r (Ok (Values q.n)) × (after ≡ at_front (as_bytes values) before)
   taken before after r room done =
       let wanted = values_wanted q all.kind in
       let reads : 3 ≤ q.kind = omega (arith, all.kind) in
@@ -38,7 +39,7 @@ module _ (q : Question) (values : List ℕ) (all : ReadsAll q values) where
         room = omega (arith, wanted, all.number, length_bytes values, room);
         answer = record { fitting = read reads (omega (arith, all.kind)) (all_values q values all); written = line_on_lem (answer_line q values) };
       }) in (
-        subst (PackedAs r) (of_read q.kind _ _ _ reads ∙ ap Values wanted) is.1,
+        subst (PackedAs r) (of_read q.kind _ _ _ reads ∙ ap (λ (m : ℕ). Ok (Values m)) wanted) is.1,
         is.2 ∙ ap (λ (l : List ℕ). at_front (as_bytes l) before) (of_read q.kind _ _ _ reads),
       )
 

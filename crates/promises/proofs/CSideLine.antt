@@ -6,14 +6,15 @@ use Prim.Native.Nat.{ℕ, ◌%◌, ◌≤◌}
 use native.Mathlib.Omega.{arith}
 use lib.ListN.{length}
 use borrow.Author.Tests.{eq-eqb}
+use Rattle.std.specs.Prelude.{Result, Ok, Err}
 use Rattle.packing.specs.Words.{words_of, as_bytes, line_on}
 use Rattle.packing.proofs.Back.{length_bytes}
 use Rattle.readings.specs.Reading.{refusal_number, number_of}
 use Rattle.readings.specs.Packed.{packed_reading}
 use Rattle.readings.specs.declared.Refusal.{Refusal}
 use Rattle.readings.specs.declared.Refusal.TheVariants.{Question, Room, Length, Character, Frame, Manchester, Echo, Pec, Alive, Check, Count}
-use Rattle.readings.specs.declared.Reading.{Reading}
-use Rattle.readings.specs.declared.Reading.TheVariants.{Counted, Written, Values, Refused}
+use Rattle.readings.specs.declared.Taken.{Taken}
+use Rattle.readings.specs.declared.Taken.TheVariants.{Counted, Written, Values}
 use Rattle.promises.specs.ByNumber.{packed_number}
 
 -- rows 1 to 11
@@ -30,11 +31,11 @@ row_number Alive = (omega arith, omega arith)
 row_number (Check b) = (omega arith, omega arith)
 row_number (Count b) = (omega arith, omega arith)
 
-pub number_packed : (reading : Reading) → packed_number (packed_reading reading) ≡ number_of reading
-number_packed (Counted n) = omega arith
-number_packed Written = omega arith
-number_packed (Values m) = omega arith
-number_packed (Refused why) = omega (arith, (row_number why).1)
+pub number_packed : (reading : Result Taken Refusal) → packed_number (packed_reading reading) ≡ number_of reading
+number_packed (Ok (Counted n)) = omega arith
+number_packed (Ok Written) = omega arith
+number_packed (Ok (Values m)) = omega arith
+number_packed (Err why) = omega (arith, (row_number why).1)
 
 words_again : (words : List ℕ) → words_of (as_bytes words) ≡ words
 unfolding words_of as_bytes

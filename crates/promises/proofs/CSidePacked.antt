@@ -5,13 +5,15 @@ use mathlib.Core.List.{List}
 use Prim.Native.Nat.{ℕ, ◌+◌, ◌*◌, ◌/◌, ◌%◌, ◌<◌}
 use native.Mathlib.Omega.{arith}
 use lib.ListN.{length}
+use Rattle.std.specs.Prelude.{Result, Ok, Err}
 use Rattle.packing.specs.Words.{line_on}
 use Rattle.questions.specs.declared.question.Question.{Question}
 use Rattle.readings.specs.Reading.{number_of, place_of, values_taken}
 use Rattle.readings.specs.Packed.{packed_reading}
 use Rattle.readings.specs.declared.Refusal.TheVariants as row
-use Rattle.readings.specs.declared.Reading.{Reading}
-use Rattle.readings.specs.declared.Reading.TheVariants.{Counted, Written, Values, Refused}
+use Rattle.readings.specs.declared.Refusal.{Refusal}
+use Rattle.readings.specs.declared.Taken.{Taken}
+use Rattle.readings.specs.declared.Taken.TheVariants.{Counted, Written, Values}
 use Rattle.judging.specs.Judge.{judge_of}
 use Rattle.judging.proofs.Accepted.{values_fit}
 use Rattle.judging.proofs.Bounds.{place_most}
@@ -33,32 +35,32 @@ as_said : {r number middle upper middle' upper' : ℕ} → Parts r number middle
 as_said is m u = record { number = is.number; middle = is.middle ∙ m; upper = is.upper ∙ u }
 
 -- what must hold of a reading so that nothing of it is lost
-record Whole (reading : Reading) : Type 0 where
+record Whole (reading : Result Taken Refusal) : Type 0 where
   byte : carried_byte reading < 256
   upper : place_of reading + values_taken reading < 65536
 
-packed : (reading : Reading) → Whole reading → number_of reading < 256
+packed : (reading : Result Taken Refusal) → Whole reading → number_of reading < 256
     → Parts (packed_reading reading) (number_of reading) (carried_byte reading) (place_of reading + values_taken reading)
 packed reading whole row =
     let upper = place_of reading + values_taken reading in
     let uncut : upper % 65536 ≡ upper = omega (arith, whole.upper) in
     as_said (parts (number_of reading) (carried_byte reading) (upper % 65536) row whole.byte) refl uncut
 
-apart : (reading : Reading) → Whole reading → PackedAs (packed_reading reading) reading
-apart (Counted n) whole = as_said (packed (Counted n) whole (omega arith)) (omega arith) (omega arith)
-apart Written whole = as_said (packed Written whole (omega arith)) (omega arith) (omega arith)
-apart (Values m) whole = as_said (packed (Values m) whole (omega arith)) (omega arith) (omega arith)
-apart (Refused row.Question) whole = as_said (packed (Refused row.Question) whole (omega arith)) (omega arith) (omega arith)
-apart (Refused row.Room) whole = as_said (packed (Refused row.Room) whole (omega arith)) (omega arith) (omega arith)
-apart (Refused row.Length) whole = as_said (packed (Refused row.Length) whole (omega arith)) (omega arith) (omega arith)
-apart (Refused (row.Character i)) whole = as_said (packed (Refused (row.Character i)) whole (omega arith)) (omega arith) (omega arith)
-apart (Refused row.Frame) whole = as_said (packed (Refused row.Frame) whole (omega arith)) (omega arith) (omega arith)
-apart (Refused (row.Manchester i)) whole = as_said (packed (Refused (row.Manchester i)) whole (omega arith)) (omega arith) (omega arith)
-apart (Refused row.Echo) whole = as_said (packed (Refused row.Echo) whole (omega arith)) (omega arith) (omega arith)
-apart (Refused row.Pec) whole = as_said (packed (Refused row.Pec) whole (omega arith)) (omega arith) (omega arith)
-apart (Refused row.Alive) whole = as_said (packed (Refused row.Alive) whole (omega arith)) (omega arith) (omega arith)
-apart (Refused (row.Check b)) whole = as_said (packed (Refused (row.Check b)) whole (omega arith)) (omega arith) (omega arith)
-apart (Refused (row.Count b)) whole = as_said (packed (Refused (row.Count b)) whole (omega arith)) (omega arith) (omega arith)
+apart : (reading : Result Taken Refusal) → Whole reading → PackedAs (packed_reading reading) reading
+apart (Ok (Counted n)) whole = as_said (packed (Ok (Counted n)) whole (omega arith)) (omega arith) (omega arith)
+apart (Ok Written) whole = as_said (packed (Ok Written) whole (omega arith)) (omega arith) (omega arith)
+apart (Ok (Values m)) whole = as_said (packed (Ok (Values m)) whole (omega arith)) (omega arith) (omega arith)
+apart (Err row.Question) whole = as_said (packed (Err row.Question) whole (omega arith)) (omega arith) (omega arith)
+apart (Err row.Room) whole = as_said (packed (Err row.Room) whole (omega arith)) (omega arith) (omega arith)
+apart (Err row.Length) whole = as_said (packed (Err row.Length) whole (omega arith)) (omega arith) (omega arith)
+apart (Err (row.Character i)) whole = as_said (packed (Err (row.Character i)) whole (omega arith)) (omega arith) (omega arith)
+apart (Err row.Frame) whole = as_said (packed (Err row.Frame) whole (omega arith)) (omega arith) (omega arith)
+apart (Err (row.Manchester i)) whole = as_said (packed (Err (row.Manchester i)) whole (omega arith)) (omega arith) (omega arith)
+apart (Err row.Echo) whole = as_said (packed (Err row.Echo) whole (omega arith)) (omega arith) (omega arith)
+apart (Err row.Pec) whole = as_said (packed (Err row.Pec) whole (omega arith)) (omega arith) (omega arith)
+apart (Err row.Alive) whole = as_said (packed (Err row.Alive) whole (omega arith)) (omega arith) (omega arith)
+apart (Err (row.Check b)) whole = as_said (packed (Err (row.Check b)) whole (omega arith)) (omega arith) (omega arith)
+apart (Err (row.Count b)) whole = as_said (packed (Err (row.Count b)) whole (omega arith)) (omega arith) (omega arith)
 
 whole_reading : (q : Question) (line before : List ℕ) → Whole (reading_on q line before)
 unfolding reading_on

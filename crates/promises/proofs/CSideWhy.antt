@@ -7,6 +7,7 @@ use native.Mathlib.Omega.{arith}
 use lib.Dec.{eqb}
 use lib.ListN.{length}
 use borrow.Author.Tests.{eqb-true, eqb-false, ne_eqb}
+use Rattle.std.specs.Prelude.{Result, Ok, Err, Option, Some, None}
 use Rattle.packing.specs.Words.{line_on}
 use Rattle.packing.proofs.Back.{length_words}
 use Rattle.packing.proofs.Taken.{even_line}
@@ -16,11 +17,7 @@ use Rattle.reasons.specs.Reason.{found, reason_number}
 use Rattle.reasons.specs.declared.Field.TheVariants as field
 use Rattle.reasons.specs.declared.Spot.{Spot}
 use Rattle.reasons.specs.declared.Spot.TheVariants.{Asked, Whole, Word, Byte}
-use Rattle.reasons.specs.declared.Right.{Right}
-use Rattle.reasons.specs.declared.Right.TheVariants.{One, Several}
 use Rattle.reasons.specs.declared.Because.{Because}
-use Rattle.reasons.specs.declared.Reason.{Reason}
-use Rattle.reasons.specs.declared.Reason.TheVariants.{Accepted, TurnedAway}
 use Rattle.c_reasons.specs.Explain.{in_bytes, reason_on, is_one, right_of, sixteen, packed_because, packed_reason}
 use Rattle.promises.specs.CSideWhy.{RightParts, WhyParts, PackedAs, PackedWhy, CSideWhy}
 use Rattle.promises.proofs.WhyNumbers.{small_in_bytes}
@@ -63,15 +60,15 @@ module _ (a h o p s t : ℕ) (ha : a < 256) (hh : h < 8) (ho : o < 2) (hp : p < 
 
 -- ---- a reason packed, by its spot
 
-one_small : (right : Right) → is_one right < 2
-one_small (One x) = omega arith
-one_small Several = omega arith
+one_small : (right : Option ℕ) → is_one right < 2
+one_small (Some x) = omega arith
+one_small None = omega arith
 
-right_parts : (r : ℕ) (right : Right) → r / 2048 % 32 ≡ is_one right → r / 281474976710656 ≡ sixteen (right_of right) → RightParts r right
-right_parts r (One x) o t = (o, t)
-right_parts r Several o t = (o, t)
+right_parts : (r : ℕ) (right : Option ℕ) → r / 2048 % 32 ≡ is_one right → r / 281474976710656 ≡ sixteen (right_of right) → RightParts r right
+right_parts r (Some x) o t = (o, t)
+right_parts r None o t = (o, t)
 
-module _ (why : Refusal) (stood : ℕ) (right : Right) (small : refusal_number why < 256) where
+module _ (why : Refusal) (stood : ℕ) (right : Option ℕ) (small : refusal_number why < 256) where
   abbrev told_at : Spot → Because
   told_at spot = found why spot stood right
 
@@ -105,9 +102,9 @@ module _ (why : Refusal) (stood : ℕ) (right : Right) (small : refusal_number w
   packed_at (Asked field.Alive) = parts 4 2 (omega arith) (Asked field.Alive)
   packed_at (Asked field.Device) = parts 4 5 (omega arith) (Asked field.Device)
 
-by_reason : (reason : Reason) → reason_number reason < 256 → PackedWhy (packed_reason reason) reason
-by_reason Accepted small = refl
-by_reason (TurnedAway b) small = packed_at b.why b.stood b.right small b.spot
+by_reason : (reason : Result (Unit {0}) Because) → reason_number reason < 256 → PackedWhy (packed_reason reason) reason
+by_reason (Ok pass) small = refl
+by_reason (Err b) small = packed_at b.why b.stood b.right small b.spot
 
 -- ---- twice as many bytes, and no other number
 
@@ -134,5 +131,5 @@ c_side_why =
         λ is. let even = whole_words line words some is in omega (arith, even, words_of line even),
       );
       packed = λ q line r told is on. subst (λ (x : ℕ). PackedWhy x told) (sym (is ∙ sym (ap packed_reason on)))
-          (by_reason told (subst (λ (y : Reason). reason_number y < 256) (sym on) (small_in_bytes q line)));
+          (by_reason told (subst (λ (y : Result (Unit {0}) Because). reason_number y < 256) (sym on) (small_in_bytes q line)));
     }

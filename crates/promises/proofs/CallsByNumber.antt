@@ -1,4 +1,5 @@
 -- Which number is due, call by call: the tests that a definition makes, in their order, are the rows' conditions.
+use Rattle.std.specs.Prelude.{Ok, Err}
 use mathlib.Core.Path.{◌≡◌, refl, sym}
 use mathlib.Core.Bool.{Bool, true, false, cond, ◌&&◌, false≢true}
 use mathlib.Core.Logic.{◌⊎◌, inl, inr, ⊎_elim}
@@ -14,17 +15,17 @@ use Rattle.ground.proofs.Test.{and_left, and_right}
 use Rattle.questions.specs.Question.{good_question}
 use Rattle.questions.specs.declared.question.Question as asked
 use Rattle.commands.specs.Command.{command_line, issued_of, issued_number}
-use Rattle.commands.specs.declared.Issued.TheVariants.{Words, Question, Room}
+use Rattle.std.specs.Prelude.{Ok, Err}
+use Rattle.commands.specs.Command as command
 use Rattle.registers.specs.Memory.{is_chain, powered_of, powered_number}
-use Rattle.registers.specs.declared.Powered.TheVariants as powered
 use Rattle.twin.specs.Step.{is_span, stepped_of, stepped_number}
-use Rattle.twin.specs.declared.step.Stepped.TheVariants as stepped
+use Rattle.twin.specs.declared.step.StepRefusal.TheVariants as step_refusal
 use Rattle.cells.specs.Cell.{enabled, cell_of, cell_number}
+use Rattle.cells.specs.declared.Cell.{Cell}
+use Rattle.cells.specs.declared.Cell.TheVariants as cell
 use Rattle.cells.specs.Voltage.{voltage_of}
 use Rattle.cells.specs.declared.Range.{Range}
 use Rattle.cells.specs.declared.Range.TheVariants.{Unipolar, Bipolar}
-use Rattle.cells.specs.declared.Cell.{Cell}
-use Rattle.cells.specs.declared.Cell.TheVariants as cell
 use Rattle.cells.specs.declared.CellRefusal.TheVariants as cell_refusal
 use Rattle.c_cells.specs.CellBytes.{packed_cell, answer_of}
 use Rattle.c_cells.specs.CellsBytes.{room_number, cells_number}
@@ -48,7 +49,7 @@ unfolding issued_of
 command_due q lent = by_tests (good_question q) refl (leb (length (command_line q)) lent) refl
   where
     by_tests : (good : Bool) → good_question q ≡ good → (fits : Bool) → leb (length (command_line q)) lent ≡ fits
-        → NumberDue (command_rows q lent) (issued_number (cond good (cond fits (Words (length (command_line q))) Room) Question))
+        → NumberDue (command_rows q lent) (issued_number (cond good (cond fits (Ok (length (command_line q))) (Err command.room)) (Err command.bad_question)))
     by_tests true good true fits = inr (never good, enough_room lent (length (command_line q)) fits)
     by_tests true good false short = inr (never good, short_of_room lent (length (command_line q)) short)
     by_tests false bad fits e = inl (bad, refl)
@@ -111,7 +112,7 @@ unfolding powered_of
 powered_due n memory = by_test (is_chain n (length memory)) refl
   where
     by_test : (fits : Bool) → is_chain n (length memory) ≡ fits
-        → NumberDue (row 15 (NoChain 256 n (length memory)) ∷ []) (powered_number (cond fits powered.On powered.Twin))
+        → NumberDue (row 15 (NoChain 256 n (length memory)) ∷ []) (powered_number (cond fits (Ok tt) (Err (record {}))))
     by_test true fits = inr (is_chain_lem 256 n (length memory) fits, refl)
     by_test false not = inl (is_no_chain 256 n (length memory) not, refl)
 
@@ -129,7 +130,7 @@ module _ (given : Type 0) (fits : Bool) (chain : fits ≡ true → given → ⊥
   stepped_due = by_tests fits refl (leb (length line) (length out)) refl
     where
       by_tests : (t : Bool) → fits ≡ t → (enough : Bool) → leb (length line) (length out) ≡ enough
-          → NumberDue (row 15 given ∷ room (length out) (length line) ∷ []) (stepped_number (cond t (cond enough stepped.Handed stepped.Room) stepped.Twin))
+          → NumberDue (row 15 given ∷ room (length out) (length line) ∷ []) (stepped_number (cond t (cond enough (Ok tt) (Err step_refusal.Room)) (Err step_refusal.Twin)))
       by_tests true is true e = inr (chain is, enough_room (length out) (length line) e)
       by_tests true is false e = inr (chain is, short_of_room (length out) (length line) e)
       by_tests false is enough e = inl (no_chain is, refl)

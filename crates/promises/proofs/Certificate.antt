@@ -20,8 +20,9 @@ use Rattle.letters.proofs.Meaning.{deserved_is_given, no_write_no_letter}
 use Rattle.printing.specs.Text.{head_line, device_line_if, entry_lines, certificate_text}
 use Rattle.listening.specs.Listening.{heard_of}
 use Rattle.certificate.specs.Certificate.{numbers_of, certificate_of, certified_of, CertificateDone, certified_number}
-use Rattle.certificate.specs.declared.Certified.{Certified}
-use Rattle.certificate.specs.declared.Certified.TheVariants as certified
+use Rattle.std.specs.Prelude.{Result, Ok, Err}
+use Rattle.jobs.specs.declared.FileRefusal.{FileRefusal}
+use Rattle.jobs.specs.declared.FileRefusal.TheVariants as refusal
 use Rattle.certificate.proofs.Answered.{Answered, no_job, no_room, all, answered, written_out}
 use Rattle.certificate.proofs.Longest.{fits_every_certificate}
 use Rattle.bmc.specs.Exports.{packed_certified, CertificateBytesDone}
@@ -59,9 +60,9 @@ only_text file text (h, es, encoded, printed) = one_text h es (certificate_of fi
 
 -- ---- `certify`
 
-module _ (file before after : List ℕ) (r : Certified) (done : CertificateDone file before after r) where
+module _ (file before after : List ℕ) (r : Result ℕ FileRefusal) (done : CertificateDone file before after r) where
   abbrev Wrote : List ℕ → Type 0
-  Wrote text = (r ≡ certified.Bytes (length text)) × (after ≡ at_front text before)
+  Wrote text = (r ≡ Ok (length text)) × (after ≡ at_front text before)
 
   wrote : good_file file ≡ true → length (certificate_of file) ≤ length before → Wrote (certificate_of file)
   wrote good room =
@@ -69,11 +70,11 @@ module _ (file before after : List ℕ) (r : Certified) (done : CertificateDone 
       (done.says ∙ says, done.leaves ∙ left_written (at_front (certificate_of file) before) before _ (ap certified_number says))
 
   only_then : Bytes file → certified_number r ≡ 0
-      → (text : List ℕ) × CertificateDue file before text × (r ≡ certified.Bytes (length text)) × (after ≡ at_front text before)
+      → (text : List ℕ) × CertificateDue file before text × (r ≡ Ok (length text)) × (after ≡ at_front text before)
   only_then small accepted = by_answer (certified_of file before) (answered file before) (ap certified_number (sym done.says) ∙ accepted)
     where
-      by_answer : (c : Certified) → Answered file before c → certified_number c ≡ 0
-          → (text : List ℕ) × CertificateDue file before text × (r ≡ certified.Bytes (length text)) × (after ≡ at_front text before)
+      by_answer : (c : Result ℕ FileRefusal) → Answered file before c → certified_number c ≡ 0
+          → (text : List ℕ) × CertificateDue file before text × (r ≡ Ok (length text)) × (after ≡ at_front text before)
       by_answer _ (no_job bad) e = absurd (omega arith)
       by_answer _ (no_room good over) e = absurd (omega arith)
       by_answer _ (all good room) e =
@@ -81,7 +82,7 @@ module _ (file before after : List ℕ) (r : Certified) (done : CertificateDone 
           (certificate_of file, (text_for _ _ file (good_is_encoded file small good), omega (arith, room)), written.0, written.1)
 
   always_then : Unit {0} → (text : List ℕ) → CertificateDue file before text
-      → (certified_number r ≡ 0) × (r ≡ certified.Bytes (length text)) × (after ≡ at_front text before)
+      → (certified_number r ≡ 0) × (r ≡ Ok (length text)) × (after ≡ at_front text before)
   always_then sent text due =
       let is = due.0 in
       let same = only_text file text is in
@@ -94,7 +95,7 @@ module _ (file before after : List ℕ) (r : ℕ) (done : CertificateBytesDone f
   unpacked : CertificateDone file before after (certified_of file before)
   unpacked = record { says = refl; leaves = done.leaves }
 
-  packed : (text : List ℕ) → certified_of file before ≡ certified.Bytes (length text) → (packed_number r ≡ 0) × (r / 256 ≡ length text)
+  packed : (text : List ℕ) → certified_of file before ≡ Ok (length text) → (packed_number r ≡ 0) × (r / 256 ≡ length text)
   packed text says = let is = done.says ∙ ap packed_certified says in (omega (arith, is), omega (arith, is))
 
   bytes_only_then : Bytes file → packed_number r ≡ 0
@@ -103,10 +104,10 @@ module _ (file before after : List ℕ) (r : ℕ) (done : CertificateBytesDone f
       let it = only_then file before after (certified_of file before) unpacked small (own_number (certified_of file before) done.says) in
       (it.0, it.1, (packed it.0 it.2).1, it.3)
     where
-      own_number : (c : Certified) → r ≡ packed_certified c → certified_number c ≡ 0
-      own_number (certified.Bytes n) e = refl
-      own_number certified.File e = absurd (omega arith)
-      own_number certified.Room e = absurd (omega arith)
+      own_number : (c : Result ℕ FileRefusal) → r ≡ packed_certified c → certified_number c ≡ 0
+      own_number (Ok n) e = refl
+      own_number (Err refusal.File) e = absurd (omega arith)
+      own_number (Err refusal.Room) e = absurd (omega arith)
 
   bytes_always_then : Unit {0} → (text : List ℕ) → CertificateDue file before text
       → (packed_number r ≡ 0) × (r / 256 ≡ length text) × (after ≡ at_front text before)

@@ -12,24 +12,24 @@ use Rattle.lines.specs.Line.{line_of}
 use Rattle.lines.specs.Write.{at_front}
 use Rattle.lines.proofs.LeftBy.{left_as_it_was}
 use Rattle.packing.specs.Words.{line_on}
-use Rattle.writing.specs.PutLine.{put_of, out_of, put_number, LinePut}
-use Rattle.writing.specs.declared.Put.{Put}
-use Rattle.writing.specs.declared.Put.TheVariants as put
+use Rattle.writing.specs.PutLine.{no_room, put_of, out_of, put_number, LinePut}
+use Rattle.std.specs.Prelude.{Result, Ok, Err}
+use Rattle.writing.specs.declared.NoRoom.{NoRoom}
 use Rattle.questions.specs.declared.question.Question.{Question}
 use Rattle.readings.specs.Packed.{packed_reading}
 use Rattle.commands.specs.Command.{issued_of, issued_number}
-use Rattle.commands.specs.declared.Issued.{Issued}
-use Rattle.commands.specs.declared.Issued.TheVariants as issued
+use Rattle.commands.specs.declared.CommandRefusal.{CommandRefusal}
+use Rattle.commands.specs.declared.CommandRefusal.TheVariants as refused
 use Rattle.cells.specs.Cell.{cell_of, cells_from, cells_of, cell_number}
-use Rattle.cells.specs.declared.Range.{Range}
-use Rattle.cells.specs.declared.Register.{Register}
 use Rattle.cells.specs.declared.Cell.{Cell}
 use Rattle.cells.specs.declared.Cell.TheVariants.{NotMeasured}
+use Rattle.cells.specs.declared.Range.{Range}
+use Rattle.cells.specs.declared.Register.{Register}
 use Rattle.c_reader.specs.ReadBytes.{reading_on}
 use Rattle.c_commands.specs.CommandBytes.{packed_issued}
 use Rattle.c_twin.specs.TwinBytes.{chain_in, power_number, bytes_number}
 use Rattle.c_cells.specs.CellsBytes.{cells_number}
-use Rattle.c_cells.proofs.EachCell.{cells_number_lem, cell_at}
+use Rattle.cells.proofs.EachRegister.{cells_number_lem, cell_at}
 use Rattle.promises.specs.ByNumber.{Row, row, NumberDue, packed_number}
 use Rattle.promises.specs.Rows.{read_rows}
 use Rattle.promises.specs.CallRows.{room, command_rows, NoChain, twin_bytes_rows, cell_rows}
@@ -72,14 +72,14 @@ unfolding put_of
 put_due bytes out = by_test (leb (length (line_of bytes)) (length out)) refl
   where
     by_test : (fits : Bool) → leb (length (line_of bytes)) (length out) ≡ fits
-        → NumberDue (room (length out) (length (line_of bytes)) ∷ []) (put_number (cond fits (put.Words (length (line_of bytes))) put.NoRoom))
+        → NumberDue (room (length out) (length (line_of bytes)) ∷ []) (put_number (cond fits (Ok (length (line_of bytes))) (Err no_room)))
     by_test true fits = enough_room (length out) (length (line_of bytes)) fits
     by_test false short = short_of_room (length out) (length (line_of bytes)) short
 
-refused_put : (bytes out after : List ℕ) (r : Put) → LinePut bytes out after r → TurnedAway (put_number r) → after ≡ out
+refused_put : (bytes out after : List ℕ) (r : Result ℕ NoRoom) → LinePut bytes out after r → TurnedAway (put_number r) → after ≡ out
 unfolding out_of
 refused_put bytes out after r done away =
-    done.leaves ∙ left_as_it_was (at_front (line_of bytes) out) out _ (subst (λ (p : Put). TurnedAway (put_number p)) done.says away)
+    done.leaves ∙ left_as_it_was (at_front (line_of bytes) out) out _ (subst (λ (p : Result ℕ NoRoom). TurnedAway (put_number p)) done.says away)
 
 -- the twelve, each by its own register
 each_due : (range : Range) (mask : ℕ) (registers : List Register) (k : ℕ) → k < length registers
@@ -102,10 +102,10 @@ read_bytes_due q line out =
 command_bytes_due : (q : Question) (lent : ℕ) → NumberDue (command_rows q lent) (packed_number (packed_issued (issued_of q lent)))
 command_bytes_due q lent = subst (NumberDue (command_rows q lent)) (sym (own_number (issued_of q lent))) (command_due q lent)
   where
-    own_number : (i : Issued) → packed_number (packed_issued i) ≡ issued_number i
-    own_number (issued.Words n) = omega arith
-    own_number issued.Question = refl
-    own_number issued.Room = refl
+    own_number : (i : Result ℕ CommandRefusal) → packed_number (packed_issued i) ≡ issued_number i
+    own_number (Ok n) = omega arith
+    own_number (Err refused.Question) = refl
+    own_number (Err refused.Room) = refl
 
 -- a small number is its own lowest eight bits
 small_due : (rows : List Row) (number : ℕ) → Small rows → NumberDue rows number → NumberDue rows (packed_number number)

@@ -7,6 +7,7 @@ use Prim.Native.Nat.{ℕ, ◌≤◌}
 use native.Mathlib.Nat.{le_refl}
 use native.Mathlib.Omega.{arith}
 use lib.ListN.{length}
+use Rattle.std.specs.Prelude.{Result, Ok, Err}
 use Rattle.lines.specs.Line.{bytes_of}
 use Rattle.lines.specs.Write.{at_front}
 use Rattle.questions.proofs.Good.{words_most}
@@ -14,13 +15,14 @@ use Rattle.questions.specs.Question.{hello_all, good_question}
 use Rattle.questions.specs.Shape.{shape_of}
 use Rattle.questions.specs.declared.question.Question as asked
 use Rattle.commands.specs.Command.{command_line, CommandPut, issued_number}
-use Rattle.commands.specs.declared.Issued.{Issued}
-use Rattle.commands.specs.declared.Issued.TheVariants.{Words, Question, Room}
+use Rattle.commands.specs.declared.CommandRefusal.{CommandRefusal}
+use Rattle.commands.specs.declared.CommandRefusal.TheVariants as refused
 use Rattle.commands.proofs.Issuing.{issued_good, issued_words, command_written}
 use Rattle.readings.specs.Reading.{number_of}
 use Rattle.reader.specs.Read.{ReadDone}
-use Rattle.readings.specs.declared.Reading.{Reading}
-use Rattle.readings.specs.declared.Reading.TheVariants.{Counted}
+use Rattle.readings.specs.declared.Refusal.{Refusal}
+use Rattle.readings.specs.declared.Taken.{Taken}
+use Rattle.readings.specs.declared.Taken.TheVariants.{Counted}
 use Rattle.contents.proofs.RowLaws.{hello_taken}
 use Rattle.judging.proofs.Accepted.{taken_reads, accepted_takes}
 use Rattle.acceptance.specs.Answer.{Sendable, reading_of, handed_out}
@@ -35,32 +37,32 @@ use Rattle.promises.proofs.Rows.{by_number, carried}
 
 -- ---- commands
 
-module _ (q : asked.Question) (before after : List ℕ) (r : Issued) (done : CommandPut q before after r) where
-  written : good_question q ≡ true → length (command_line q) ≤ length before → (r ≡ Words (length (command_line q))) × (after ≡ at_front (command_line q) before)
+module _ (q : asked.Question) (before after : List ℕ) (r : Result ℕ CommandRefusal) (done : CommandPut q before after r) where
+  written : good_question q ≡ true → length (command_line q) ≤ length before → (r ≡ Ok (length (command_line q))) × (after ≡ at_front (command_line q) before)
   written good room = (done.says ∙ issued_good q (length before) good (omega arith), command_written q before after r done good (omega arith))
 
   command_only_then : issued_number r ≡ 0
-      → (line : List ℕ) × CommandDue q (length before) line × (r ≡ Words (length line)) × (after ≡ at_front line before)
+      → (line : List ℕ) × CommandDue q (length before) line × (r ≡ Ok (length line)) × (after ≡ at_front line before)
   command_only_then = by_answer r refl
     where
-      by_answer : (i : Issued) → r ≡ i → issued_number i ≡ 0
-          → (line : List ℕ) × CommandDue q (length before) line × (r ≡ Words (length line)) × (after ≡ at_front line before)
-      by_answer (Words n) e none =
+      by_answer : (i : Result ℕ CommandRefusal) → r ≡ i → issued_number i ≡ 0
+          → (line : List ℕ) × CommandDue q (length before) line × (r ≡ Ok (length line)) × (after ≡ at_front line before)
+      by_answer (Ok n) e none =
           let i = issued_words q (length before) n (sym done.says ∙ e) in
           let done = written i.good (omega (arith, i.fits)) in
           (command_line q, (i.good, refl, omega (arith, i.fits)), done.0, done.1)
-      by_answer Question e none = absurd (omega arith)
-      by_answer Room e none = absurd (omega arith)
+      by_answer (Err refused.Question) e none = absurd (omega arith)
+      by_answer (Err refused.Room) e none = absurd (omega arith)
 
   command_always_then : Unit {0} → (line : List ℕ) → CommandDue q (length before) line
-      → (issued_number r ≡ 0) × (r ≡ Words (length line)) × (after ≡ at_front line before)
+      → (issued_number r ≡ 0) × (r ≡ Ok (length line)) × (after ≡ at_front line before)
   command_always_then sent line (good, is, room) =
       let done = written good (omega (arith, ap length is, room)) in
-      (ap issued_number done.0, done.0 ∙ ap (λ (l : List ℕ). Words (length l)) (sym is), done.1 ∙ ap (λ (l : List ℕ). at_front l before) (sym is))
+      (ap issued_number done.0, done.0 ∙ ap (λ (l : List ℕ). Ok (length l)) (sym is), done.1 ∙ ap (λ (l : List ℕ). at_front l before) (sym is))
 
 -- ---- answers
 
-module _ (q : asked.Question) (line before after : List ℕ) (r : Reading) (done : ReadDone q line before after r) where
+module _ (q : asked.Question) (line before after : List ℕ) (r : Result Taken Refusal) (done : ReadDone q line before after r) where
   only_then : number_of r ≡ 0
       → (values : List ℕ) × Due q line (length before) values × (r ≡ reading_of q values) × (after ≡ at_front (handed_out q values) before)
   only_then accepted =
@@ -81,7 +83,7 @@ module _ (q : asked.Question) (line before after : List ℕ) (r : Reading) (done
         done.leaves ∙ ap (λ (l : List ℕ). at_front l before) a.1,
       )
 
-  hello_count : q.kind ≡ hello_all → number_of r ≡ 0 → r ≡ Counted (count_in (bytes_of line))
+  hello_count : q.kind ≡ hello_all → number_of r ≡ 0 → r ≡ Ok (Counted (count_in (bytes_of line)))
   hello_count hello accepted =
       let taken = accepted_takes q line (length before) (ap number_of (sym done.says) ∙ accepted) in
       done.says ∙ taken_reads q line (length before) taken ∙ sym (hello_taken q (bytes_of line) hello)

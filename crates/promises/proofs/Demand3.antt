@@ -9,6 +9,7 @@ use native.Mathlib.Omega.{arith}
 use lib.Dec.{leb}
 use lib.ListN.{length}
 use borrow.Author.Tests.{leb-true}
+use Rattle.std.specs.Prelude.{Result, Ok}
 use Rattle.ground.specs.Sweep.{every}
 use Rattle.ground.proofs.Test.{and_left, and_right, or_cases}
 use Rattle.ground.proofs.Sweep.{swept}
@@ -21,8 +22,9 @@ use Rattle.questions.proofs.Good.{good_count}
 use Rattle.readings.specs.Reading.{number_of}
 use Rattle.judging.specs.Judge.{judge_of}
 use Rattle.reader.specs.Read.{ReadDone}
-use Rattle.readings.specs.declared.Reading.{Reading}
-use Rattle.readings.specs.declared.Reading.TheVariants.{Values}
+use Rattle.readings.specs.declared.Refusal.{Refusal}
+use Rattle.readings.specs.declared.Taken.{Taken}
+use Rattle.readings.specs.declared.Taken.TheVariants.{Values}
 use Rattle.acceptance.specs.Answer.{AllValues, Fitting, AnswerTo}
 use Rattle.acceptance.specs.Answer.Fitting.{hello, write, read}
 use Rattle.acceptance.proofs.AcceptedIsAnAnswer.{accepted_is_an_answer}
@@ -57,21 +59,21 @@ module _ (q : Question) (values : List ℕ) (all : ReadsAll q values) where
   all_values = record { number = all.number ∙ sym (values_wanted q all.kind); registers = all.registers }
 
   -- undamaged, it is accepted, and each device's register stands once at the front of the output, in address order
-  taken : (before after : List ℕ) (r : Reading) → length values ≤ length before → ReadDone q (answer_line q values) before after r
-      → (r ≡ Values q.n) × (after ≡ at_front values before)
+  taken : (before after : List ℕ) (r : Result Taken Refusal) → length values ≤ length before → ReadDone q (answer_line q values) before after r
+      → (r ≡ Ok (Values q.n)) × (after ≡ at_front values before)
   taken before after r room done =
       let is = all.kind in
       let wanted = values_wanted q is in
       let line = answer_line q values in
       let sent : AnswerTo q values line = record { fitting = read (omega arith) (omega arith) all_values; written = refl } in
       let answered = answer_is_accepted q all.good all.sends (length before) (omega (arith, wanted, all.number)) values line sent in (
-        done.says ∙ answered.0 ∙ of_read q.kind _ _ _ (omega arith) ∙ ap Values wanted,
+        done.says ∙ answered.0 ∙ of_read q.kind _ _ _ (omega arith) ∙ ap (λ (m : ℕ). Ok (Values m)) wanted,
         done.leaves ∙ ap (λ (l : List ℕ). at_front l before) (answered.1 ∙ of_read q.kind _ _ _ (omega arith)),
       )
 
   -- a damaged line that no answer has is turned away
   refused : (masks : List ℕ) → ((other : List ℕ) → AllValues q other → turned (answer_line q values) masks ≡ answer_line q other → ⊥)
-      → (before after : List ℕ) (r : Reading) → ReadDone q (turned (answer_line q values) masks) before after r
+      → (before after : List ℕ) (r : Result Taken Refusal) → ReadDone q (turned (answer_line q values) masks) before after r
       → TurnedAway (number_of r) × (after ≡ before)
   refused masks never before after r done =
       let away : TurnedAway (number_of r) = omega (arith, ap number_of done.says, by_number (number_of judged) refl) in
@@ -80,7 +82,7 @@ module _ (q : Question) (values : List ℕ) (all : ReadsAll q values) where
       damaged : List ℕ
       damaged = turned (answer_line q values) masks
 
-      judged : Reading
+      judged : Result Taken Refusal
       judged = judge_of q damaged (length before)
 
       by_fitting : (other : List ℕ) → Fitting q other → damaged ≡ answer_line q other → ⊥
@@ -96,7 +98,7 @@ module _ (q : Question) (values : List ℕ) (all : ReadsAll q values) where
 
   -- as any is that has too few bits turned over to be another answer's
   damaged : (masks : List ℕ) → Damage (answer_line q values) masks (most_bits q.n)
-      → (before after : List ℕ) (r : Reading) → ReadDone q (turned (answer_line q values) masks) before after r
+      → (before after : List ℕ) (r : Result Taken Refusal) → ReadDone q (turned (answer_line q values) masks) before after r
       → TurnedAway (number_of r) × (after ≡ before)
   damaged masks d =
       refused masks (λ other fits w.

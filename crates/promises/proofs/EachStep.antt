@@ -1,4 +1,5 @@
 -- Each step by its rule: the twin's and the round trip's laws on one hop, said of the call.
+use Rattle.std.specs.Prelude.{Option, Some, None}
 use mathlib.Core.Path.{◌≡◌, refl, ap, ◌∙◌}
 use mathlib.Core.Bool.{true, ◌&&◌}
 use mathlib.Core.List.{List}
@@ -9,8 +10,7 @@ use lib.ListN.{length, get_or, length-set}
 use borrow.Author.Tests.{le-leb, lt-ltb, eq-eqb}
 use Rattle.registers.specs.Memory.{is_chain}
 use Rattle.passage.specs.Pass.{change_of}
-use Rattle.passage.specs.declared.pass.Change.{Change}
-use Rattle.passage.specs.declared.pass.Change.TheVariants.{Nothing, Store}
+use Rattle.passage.specs.declared.pass.Store.{Store}
 use Rattle.twin.specs.Step.{registers_of, with_change, chain_with, hop}
 use Rattle.twin.proofs.Registers.{hop_other}
 use Rattle.twin.proofs.Stepping.{says_handed, leaves_line, leaves_memory, hop_length}
@@ -23,9 +23,9 @@ pub is_a_chain : (n : ℕ) (memory : List ℕ) → 1 ≤ n → n ≤ 32 → leng
 is_a_chain n memory least most words = simp (le-leb 1 n least, le-leb n 32 most, eq-eqb (length memory) (256 * n) words)
 
 -- no device changes how many registers there are
-registers_kept : (memory : List ℕ) (k : ℕ) (c : Change) → length (with_change memory k c) ≡ length memory
-registers_kept memory k Nothing = refl
-registers_kept memory k (Store x v) = length-set memory (256 * k + x) v
+registers_kept : (memory : List ℕ) (k : ℕ) (c : Option Store) → length (with_change memory k c) ≡ length memory
+registers_kept memory k None = refl
+registers_kept memory k (Some s) = length-set memory (256 * k + s.reg) s.value
 
 pub each_step : EachStep
 each_step n k memory memory_left line out out_after r least most within words room done =

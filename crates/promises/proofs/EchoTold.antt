@@ -8,6 +8,7 @@ use native.Mathlib.Nat.{eq-zero-or-pos}
 use native.Mathlib.Omega.{arith}
 use lib.ListN.{length, get_or}
 use borrow.Author.Tests.{eqb-true, eqb-false}
+use Rattle.std.specs.Prelude.{Some}
 use Rattle.ground.proofs.Test.{below_or_not, refuted}
 use Rattle.lines.specs.Line.{byte_at, bytes_of}
 use Rattle.lines.proofs.Line.{byte_count, bytes_at}
@@ -17,7 +18,6 @@ use Rattle.questions.specs.declared.question.Question as asked
 use Rattle.questions.proofs.Good.{hello_shape, write_shape, read_shape}
 use Rattle.readings.specs.declared.Refusal.TheVariants.{Echo}
 use Rattle.reasons.specs.Reason.{at_byte, asked_byte, as_asked, at_echo}
-use Rattle.reasons.specs.declared.Right.TheVariants.{One}
 use Rattle.promises.specs.Rows.{echo}
 use Rattle.promises.specs.TellMeWhy.{Told}
 use Rattle.promises.proofs.SpotsTold.{Early}
@@ -87,7 +87,7 @@ module _ (q : asked.Question) (line : List ℕ) (fits : length line ≡ (shape_o
   same i inside e = bytes_at line i (has i inside) ∙ eqb-true (byte_at line i) (asked_byte q i) e ∙ (repeats q).at i inside
 
   told_at : (p : ℕ) → p < length (echo q) → as_asked q line p ≡ false → ((j : ℕ) → j < p → as_asked q line j ≡ true)
-      → Told q line (at_byte line Echo p (One (asked_byte q p)))
+      → Told q line (at_byte line Echo p (Some (asked_byte q p)))
   told_at p inside wrong right =
       let byte = bytes_at line p (has p inside) in
       record {
@@ -124,7 +124,7 @@ module _ (q : asked.Question) (line : List ℕ) (fits : length line ≡ (shape_o
     picked t u v = cond t (cond u (cond v 3 2) 1) 0
 
     abbrev Tells : ℕ → Type 0
-    Tells p = Told q line (at_byte line Echo p (One (asked_byte q p)))
+    Tells p = Told q line (at_byte line Echo p (Some (asked_byte q p)))
 
     -- the fourth is the wrong one where the others are right
     fourth_wrong : ((j : ℕ) → j < 3 → as_asked q line j ≡ true) → as_asked q line 3 ≡ false

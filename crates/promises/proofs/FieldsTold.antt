@@ -8,6 +8,7 @@ use native.Mathlib.Nat.{eq-zero-or-pos}
 use native.Mathlib.Omega.{arith}
 use lib.Dec.{eqb, leb, ltb}
 use borrow.Author.Tests.{eqb-true, eqb-false, eq-eqb, ne_eqb, leb-true, leb-false, le-leb, lt-ltb}
+use Rattle.std.specs.Prelude.{Some, None}
 use Rattle.ground.proofs.Test.{and_left, and_right, or_left, or_right, below_or_not}
 use Rattle.questions.specs.Question.{good_chain, good_question}
 use Rattle.questions.specs.declared.question.Question as asked
@@ -17,7 +18,6 @@ use Rattle.readings.specs.declared.Refusal.TheVariants.{Question}
 use Rattle.reasons.specs.Reason.{bad_field, device_right, at_field}
 use Rattle.reasons.specs.declared.Field.{Field}
 use Rattle.reasons.specs.declared.Field.TheVariants as field
-use Rattle.reasons.specs.declared.Right.TheVariants.{One, Several}
 use Rattle.promises.specs.TellMeWhy.{Asks, Passes, Only, Told}
 use Rattle.promises.proofs.RowsGiven.{never}
 
@@ -126,7 +126,7 @@ module _ (q : asked.Question) (line : List ℕ) (bad : good_question q ≡ false
       names = ⊎_elim (λ is. is) (λ other. absurd (broken (λ is. absurd (other is)))) (named_or_not q.kind)
 
       abbrev Choice : Bool → Type 0
-      Choice t = Only (Asks q line Question 3) (cond t (One 0) Several)
+      Choice t = Only (Asks q line Question 3) (cond t (Some 0) None)
 
       one : q.n ≡ 1 → Choice true
       one e = (λ is. omega arith, λ other below. let under = below names in omega arith)

@@ -10,6 +10,7 @@ use native.Mathlib.Omega.{arith}
 use lib.Dec.{leb}
 use lib.ListN.{length, get_or, drop}
 use borrow.Author.Tests.{leb-true, leb-false}
+use Rattle.std.specs.Prelude.{Result, Some, Ok, Err}
 use Rattle.ground.proofs.Test.{refuted}
 use Rattle.remainder.specs.Turned.{Bytes}
 use Rattle.readings.specs.Reading.{number_of}
@@ -17,8 +18,7 @@ use Rattle.judging.specs.Judge.{judge_of}
 use Rattle.jobs.specs.declared.Header.{Header}
 use Rattle.jobs.specs.Format.{Entry, head_size, entry_bytes, asked}
 use Rattle.jobs.specs.declared.Cursor.{Cursor}
-use Rattle.jobs.specs.declared.Opened.TheVariants as opened
-use Rattle.jobs.specs.declared.Next.TheVariants as next
+use Rattle.jobs.specs.Refusals.{not_job}
 use Rattle.jobs.specs.Check.{header_in, size_in, entry_in, entries_in, good_entry, good_file, placed_in, opened_of, opened_number, next_in, next_of, next_number}
 use Rattle.jobs.specs.Encoded.{Fits, Keeps, Encodes}
 use Rattle.jobs.proofs.Sizes.{head_length}
@@ -27,15 +27,14 @@ use Rattle.jobs.proofs.GoodFile.{header_read, entries_read, encoded_is_good, goo
 use Rattle.letters.specs.declared.Standing.{Standing}
 use Rattle.printing.specs.Text.{device_line_if, certificate_text}
 use Rattle.printing.specs.Print.{most_entries, printed_of, printed_number}
-use Rattle.printing.specs.declared.Printed.TheVariants as printed
+use Rattle.printing.specs.declared.PrintRefusal.TheVariants as printed
 use Rattle.certificate.specs.Certificate.{certificate_of, certified_of, certified_number}
-use Rattle.certificate.specs.declared.Certified.{Certified}
-use Rattle.certificate.specs.declared.Certified.TheVariants as certified
+use Rattle.jobs.specs.declared.FileRefusal.{FileRefusal}
+use Rattle.jobs.specs.declared.FileRefusal.TheVariants as refusal
 use Rattle.certificate.proofs.Answered.{Answered, no_job, no_room, all, answered}
 use Rattle.registers.specs.Memory.{power_on_memory}
 use Rattle.listening.specs.Listening.{heard_here, listened_to, nothing_heard, listen_of}
 use Rattle.rehearsal.specs.Rehearsal.{answered_size, rehearsal_of, rehearsed_of, rehearsed_number}
-use Rattle.rehearsal.specs.declared.Rehearsed.TheVariants as rehearsed
 use Rattle.rehearsal.proofs.Counting.{rehearsed_size}
 use Rattle.bmc.specs.Exports.{packed_certified, CertificateBytesDone}
 use Rattle.promises.specs.ByNumber.{row, NumberDue}
@@ -66,7 +65,7 @@ pub opened_by_number : (file : List ℕ) → Bytes file → NumberDue (row 14 (N
 unfolding opened_of
 opened_by_number file small = by_test (good_file file) refl
   where
-    by_test : (good : Bool) → good_file file ≡ good → NumberDue (row 14 (NoJobFile file) ∷ []) (opened_number (cond good (opened.Job (header_in file)) opened.File))
+    by_test : (good : Bool) → good_file file ≡ good → NumberDue (row 14 (NoJobFile file) ∷ []) (opened_number (cond good (Ok (header_in file)) (Err not_job)))
     by_test true good = inr (good_is_a_job file small good, refl)
     by_test false bad = inl (bad_is_no_job file bad, refl)
 
@@ -80,7 +79,7 @@ next_by_number h file c small = by_rest (drop c.at file) (drop_bytes c.at file s
     by_rest (b ∷ rest) few = by_test (good_entry h (b ∷ rest)) refl
       where
         by_test : (good : Bool) → good_entry h (b ∷ rest) ≡ good
-            → NumberDue (next_rows h (b ∷ rest)) (next_number (cond good (placed_in h c.at (b ∷ rest)) next.File))
+            → NumberDue (next_rows h (b ∷ rest)) (next_number (cond good (Ok (Some (placed_in h c.at (b ∷ rest)))) (Err not_job)))
         by_test true good = inr ((λ some. good_is_an_entry h (b ∷ rest) few good some.1), refl)
         by_test false bad = inl ((omega arith, bad_is_no_entry h (b ∷ rest) bad), refl)
 
@@ -120,7 +119,7 @@ text_by_number version n numbers s text = by_tests (leb (length numbers) most_en
     bytes = length (certificate_text version n numbers s)
 
     by_tests : (few : Bool) → leb (length numbers) most_entries ≡ few → (fits : Bool) → leb bytes (length text) ≡ fits
-        → NumberDue (row 14 (most_entries < length numbers) ∷ room (length text) bytes ∷ []) (printed_number (cond few (cond fits (printed.Bytes bytes) printed.Room) printed.Many))
+        → NumberDue (row 14 (most_entries < length numbers) ∷ room (length text) bytes ∷ []) (printed_number (cond few (cond fits (Ok bytes) (Err printed.Room)) (Err printed.Many)))
     by_tests false many fits f = inl (leb-false (length numbers) most_entries many, refl)
     by_tests true few true fits = inr ((λ many. omega (arith, leb-true (length numbers) most_entries few)), enough_room (length text) bytes fits)
     by_tests true few false short = inr ((λ many. omega (arith, leb-true (length numbers) most_entries few)), short_of_room (length text) bytes short)
@@ -137,7 +136,7 @@ pub certified_by_number : (file before : List ℕ) → Bytes file
     → NumberDue (certify_rows file (length before)) (certified_number (certified_of file before))
 certified_by_number file before small = by_answer (certified_of file before) (answered file before)
   where
-    by_answer : (c : Certified) → Answered file before c → NumberDue (certify_rows file (length before)) (certified_number c)
+    by_answer : (c : Result ℕ FileRefusal) → Answered file before c → NumberDue (certify_rows file (length before)) (certified_number c)
     by_answer _ (no_job bad) = inl (bad_is_no_job file bad, refl)
     by_answer _ (no_room good over) =
         let text = text_for _ _ file (good_is_encoded file small good) in
@@ -149,10 +148,10 @@ certified_by_number file before small = by_answer (certified_of file before) (an
 pub packed_number : (file before after : List ℕ) (r : ℕ) → CertificateBytesDone file before after r → r % 256 ≡ certified_number (certified_of file before)
 packed_number file before after r done = ap (λ (k : ℕ). k % 256) done.says ∙ own_number (certified_of file before)
   where
-    own_number : (c : Certified) → packed_certified c % 256 ≡ certified_number c
-    own_number (certified.Bytes n) = omega arith
-    own_number certified.File = refl
-    own_number certified.Room = refl
+    own_number : (c : Result ℕ FileRefusal) → packed_certified c % 256 ≡ certified_number c
+    own_number (Ok n) = omega arith
+    own_number (Err refusal.File) = refl
+    own_number (Err refusal.Room) = refl
 
 pub certificate_bytes_by_number : (file before after : List ℕ) (r : ℕ) → Bytes file → CertificateBytesDone file before after r
     → NumberDue (certify_rows file (length before)) (r % 256)
@@ -190,14 +189,14 @@ rehearsed_by_number file before small = by_tests (good_file file) refl (leb byte
 
     by_tests : (good : Bool) → good_file file ≡ good → (short : Bool) → leb bytes 65536 ≡ short → (fits : Bool) → leb bytes (length before) ≡ fits
         → NumberDue (rehearse_rows file (length before))
-        (rehearsed_number (cond good (cond short (cond fits (rehearsed.Bytes bytes) rehearsed.Room) rehearsed.File) rehearsed.File))
+        (rehearsed_number (cond good (cond short (cond fits (Ok bytes) (Err refusal.Room)) (Err refusal.File)) (Err refusal.File)))
     by_tests false bad short e fits f = inl (inl (bad_is_no_job file bad), refl)
     by_tests true good false long fits f = inl (inr (above file _ small good (omega (arith, leb-false bytes 65536 long))), refl)
     by_tests true good true short fits f =
         inr (⊎_elim (good_is_a_job file small good) (not_above file _ (omega (arith, leb-true bytes 65536 short))), by_room fits f)
       where
         by_room : (fits : Bool) → leb bytes (length before) ≡ fits
-            → (AnsweredAbove file (length before) × (rehearsed_number (cond fits (rehearsed.Bytes bytes) rehearsed.Room) ≡ 2))
-            ⊎ ((AnsweredAbove file (length before) → ⊥) × (rehearsed_number (cond fits (rehearsed.Bytes bytes) rehearsed.Room) ≡ 0))
+            → (AnsweredAbove file (length before) × (rehearsed_number (cond fits (Ok bytes) (Err refusal.Room)) ≡ 2))
+            ⊎ ((AnsweredAbove file (length before) → ⊥) × (rehearsed_number (cond fits (Ok bytes) (Err refusal.Room)) ≡ 0))
         by_room true room = inr (not_above file (length before) (omega (arith, leb-true bytes (length before) room)), refl)
         by_room false over = inl (above file (length before) small good (omega (arith, leb-false bytes (length before) over)), refl)

@@ -12,11 +12,11 @@ use lib.Ieee.{Float}
 use lib.ListN.{get_or}
 use Rattle.packing.specs.Words.{word_at}
 use Rattle.cells.specs.Cell.{enabled, cell_of}
+use Rattle.cells.specs.declared.Cell.{Cell}
+use Rattle.cells.specs.declared.Cell.TheVariants as cell
 use Rattle.cells.specs.Voltage.{voltage_of}
 use Rattle.cells.specs.declared.Range.{Range}
 use Rattle.cells.specs.declared.Range.TheVariants.{Unipolar, Bipolar}
-use Rattle.cells.specs.declared.Cell.{Cell}
-use Rattle.cells.specs.declared.Cell.TheVariants as cell
 use Rattle.cells.specs.declared.CellRefusal.TheVariants as cell_refusal
 use Rattle.c_cells.specs.CellBytes.{microvolts_or, volts_or, microvolts_left, volts_left, CellDone}
 use Rattle.c_cells.specs.CellsBytes.{cells_number, CellsDone}

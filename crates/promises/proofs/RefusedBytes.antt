@@ -9,26 +9,29 @@ use lib.Dec.{eqb}
 use lib.IntN.{ℤ}
 use lib.Ieee.{Float}
 use lib.ListN.{length}
+use Rattle.std.specs.Prelude.{Result, Ok, Err}
 use Rattle.lines.specs.Write.{at_front}
 use Rattle.lines.proofs.LeftBy.{left_as_it_was}
 use Rattle.packing.specs.Words.{as_bytes, line_on}
 use Rattle.questions.specs.declared.question.Question as asked
 use Rattle.readings.specs.Reading.{values_taken}
 use Rattle.readings.specs.Packed.{packed_reading}
-use Rattle.readings.specs.declared.Reading.{Reading}
-use Rattle.readings.specs.declared.Reading.TheVariants.{Counted, Written, Values, Refused}
+use Rattle.readings.specs.declared.Refusal.{Refusal}
+use Rattle.readings.specs.declared.Taken.{Taken}
+use Rattle.readings.specs.declared.Taken.TheVariants.{Counted, Written, Values}
 use Rattle.reader.specs.Read.{values_on}
 use Rattle.commands.specs.Command.{command_line, issued_of, issued_number}
 use Rattle.registers.specs.Memory.{power_on_memory}
 use Rattle.twin.specs.Step.{Chain}
 use Rattle.certificate.specs.Certificate.{certified_of, certified_number}
-use Rattle.certificate.specs.declared.Certified.{Certified}
-use Rattle.certificate.specs.declared.Certified.TheVariants as certified
+use Rattle.std.specs.Prelude.{Result, Ok, Err}
+use Rattle.jobs.specs.declared.FileRefusal.{FileRefusal}
+use Rattle.jobs.specs.declared.FileRefusal.TheVariants as refusal
 use Rattle.cells.specs.Cell.{cell_of}
-use Rattle.cells.specs.declared.Range.{Range}
-use Rattle.cells.specs.declared.Range.TheVariants.{Unipolar, Bipolar}
 use Rattle.cells.specs.declared.Cell.{Cell}
 use Rattle.cells.specs.declared.Cell.TheVariants as cell
+use Rattle.cells.specs.declared.Range.{Range}
+use Rattle.cells.specs.declared.Range.TheVariants.{Unipolar, Bipolar}
 use Rattle.c_reader.specs.ReadBytes.{reading_on, ReadBytesDone}
 use Rattle.c_commands.specs.CommandBytes.{CommandBytesDone}
 use Rattle.c_cells.specs.CellBytes.{packed_cell, microvolts_or, volts_or, answer_of, microvolts_left, volts_left, CellDone}
@@ -45,11 +48,11 @@ unfolding as_bytes
 refused_read_bytes q line before after r done away =
     done.leaves ∙ ap (λ (m : ℕ). at_front (as_bytes (values_on (line_on line) m)) before) (no_values (reading_on q line before) done.says)
   where
-    no_values : (reading : Reading) → r ≡ packed_reading reading → values_taken reading ≡ 0
-    no_values (Counted n) e = refl
-    no_values Written e = refl
-    no_values (Values m) e = absurd (omega arith)
-    no_values (Refused why) e = refl
+    no_values : (reading : Result Taken Refusal) → r ≡ packed_reading reading → values_taken reading ≡ 0
+    no_values (Ok (Counted n)) e = refl
+    no_values (Ok Written) e = refl
+    no_values (Ok (Values m)) e = absurd (omega arith)
+    no_values (Err why) e = refl
 
 pub refused_command_bytes : (q : asked.Question) (before after : List ℕ) (r : ℕ) → CommandBytesDone q before after r
     → TurnedAway (packed_number r) → after ≡ before
@@ -109,7 +112,7 @@ refused_certificate_bytes file before after r done away =
     refused_certificate file before after (certified_of file before) (record { says = refl; leaves = done.leaves })
     (own_number (certified_of file before) done.says)
   where
-    own_number : (c : Certified) → r ≡ packed_certified c → TurnedAway (certified_number c)
-    own_number (certified.Bytes n) e = omega arith
-    own_number certified.File e = omega arith
-    own_number certified.Room e = omega arith
+    own_number : (c : Result ℕ FileRefusal) → r ≡ packed_certified c → TurnedAway (certified_number c)
+    own_number (Ok n) e = omega arith
+    own_number (Err refusal.File) e = omega arith
+    own_number (Err refusal.Room) e = omega arith

@@ -1,22 +1,25 @@
 -- The round trip: through the chain by `roundtrip`'s laws on all hops, said of the call; and back by demand 2, since what came of it is a right
 -- answer's line.
+use Rattle.std.specs.Prelude.{Result, ⊤}
 use mathlib.Core.Path.{◌≡◌, sym, ap, ◌∙◌, subst}
 use mathlib.Core.List.{List}
 use Prim.Native.Nat.{ℕ, ◌≤◌}
 use native.Mathlib.Omega.{arith}
 use lib.ListN.{length, take, drop}
 use lib.Seq.{take-append_seam, take_at}
+use Rattle.std.specs.Prelude.{Result}
 use Rattle.lines.specs.Write.{at_front}
 use Rattle.questions.specs.Shape.{shape_of}
 use Rattle.commands.specs.Command.{command_line, CommandPut}
-use Rattle.commands.specs.declared.Issued.{Issued}
+use Rattle.commands.specs.declared.CommandRefusal.{CommandRefusal}
 use Rattle.questions.specs.declared.question.Question.{Question}
 use Rattle.readings.specs.Reading.{number_of}
-use Rattle.readings.specs.declared.Reading.{Reading}
+use Rattle.readings.specs.declared.Refusal.{Refusal}
+use Rattle.readings.specs.declared.Taken.{Taken}
 use Rattle.reader.specs.Read.{ReadDone}
 use Rattle.acceptance.specs.Answer.{reading_of, handed_out}
 use Rattle.twin.specs.Step.{chain_with, hops, ChainDone}
-use Rattle.twin.specs.declared.step.Stepped.{Stepped}
+use Rattle.twin.specs.declared.step.StepRefusal.{StepRefusal}
 use Rattle.commands.proofs.Issuing.{command_written}
 use Rattle.twin.proofs.Stepping.{says_handed, leaves_line, leaves_memory, hops_length}
 use Rattle.roundtrip.specs.Between.{brought_back, ChangedBy}
@@ -27,7 +30,7 @@ use Rattle.promises.proofs.Demand2.{demand_2}
 use Rattle.promises.proofs.EachStep.{is_a_chain}
 
 module _ (q : Question) (n : ℕ) (memory : List ℕ) (to : PutTo q n memory) where
-  trip : (out out_after memory_left : List ℕ) (r : Stepped) → ChainDone n memory memory_left (command_line q) out out_after r
+  trip : (out out_after memory_left : List ℕ) (r : Result ⊤ StepRefusal) → ChainDone n memory memory_left (command_line q) out out_after r
       → length (command_line q) ≤ length out → Trip q n memory memory_left out out_after r
   trip out out_after memory_left r done room =
       let start = chain_with memory (command_line q) in
@@ -45,7 +48,7 @@ module _ (q : Question) (n : ℕ) (memory : List ℕ) (to : PutTo q n memory) wh
             (held_after q to.good to.sends n chain to.least to.most memory to.registers to.words);
       }
 
-  whole_trip : (written line out out_after memory_left before after : List ℕ) (issued : Issued) (r : Stepped) (reading : Reading)
+  whole_trip : (written line out out_after memory_left before after : List ℕ) (issued : Result ℕ CommandRefusal) (r : Result ⊤ StepRefusal) (reading : Result Taken Refusal)
       → CommandPut q written line issued → length (command_line q) ≤ length written
       → ChainDone n memory memory_left (take (length (command_line q)) line) out out_after r → length (command_line q) ≤ length out
       → ReadDone q (take (length (command_line q)) out_after) before after reading → (shape_of q).values ≤ length before

@@ -8,23 +8,19 @@ use native.Mathlib.Omega.{arith}
 use lib.Dec.{eqb, leb}
 use lib.ListN.{length}
 use borrow.Author.Tests.{leb-true, leb-false, eqb-true, eqb-false}
+use Rattle.std.specs.Prelude.{Ok, Err, Option, Some, None}
 use Rattle.characters.specs.Nibble.{is_nibble}
 use Rattle.character_check.specs.Check.{is_character}
 use Rattle.lines.specs.Line.{bytes_of}
 use Rattle.scanning.specs.Place.{first_no_character, first_no_nibble}
 use Rattle.scanning.specs.Frame.{framed}
-use Rattle.scanning.specs.declared.Place.{Place}
-use Rattle.scanning.specs.declared.Place.TheVariants.{At, Nowhere}
 use Rattle.questions.specs.Question.{good_question}
 use Rattle.questions.specs.Shape.{shape_of}
 use Rattle.questions.specs.declared.question.Question as asked
 use Rattle.readings.specs.Reading.{number_of}
-use Rattle.readings.specs.FirstFault.{given_unless, first_fault, said}
+use Rattle.readings.specs.FirstFault.{Said, given_unless, first_fault, said}
 use Rattle.readings.specs.declared.Refusal.{Refusal}
 use Rattle.readings.specs.declared.Refusal.TheVariants.{Question, Room, Length, Character, Frame, Manchester, Echo, Pec, Alive, Check, Count}
-use Rattle.readings.specs.declared.Reading.TheVariants.{Refused}
-use Rattle.readings.specs.declared.Screened.{Screened}
-use Rattle.readings.specs.declared.Screened.TheVariants.{Passed, Faulty}
 use Rattle.readings.proofs.FirstFault.{Each, first_of_each, no_row_is_zero}
 use Rattle.readings.proofs.FirstFault.Each.{none as no_more, next as and-next}
 use Rattle.contents.specs.Rows.{echoed, pec_right, alive_right, check_byte, count_right, taken_of}
@@ -85,19 +81,19 @@ module _ (q : asked.Question) (line : List ℕ) (lent : ℕ) where
   CarriedBy (Check b) = b ≡ check_in q (bytes_of line)
   CarriedBy (Count b) = b ≡ count_in (bytes_of line)
 
-  Told : Screened → Type 0
-  Told Passed = Unit
-  Told (Faulty why) = CarriedBy why
+  Told : Said → Type 0
+  Told (Ok pass) = Unit
+  Told (Err why) = CarriedBy why
 
   unless : (why : Refusal) (t : Bool) → (t ≡ false → CarriedBy why) → Told (given_unless why t)
   unfolding Told
   unless why true tells = tt
   unless why false tells = tells refl
 
-  at : (why : ℕ → Refusal) (p : Place) → ((i : ℕ) → p ≡ At i → CarriedBy (why i)) → Told (given_at why p)
+  at : (why : ℕ → Refusal) (p : Option ℕ) → ((i : ℕ) → p ≡ Some i → CarriedBy (why i)) → Told (given_at why p)
   unfolding Told
-  at why (At i) tells = tells i refl
-  at why Nowhere tells = tt
+  at why (Some i) tells = tells i refl
+  at why None tells = tt
 
   told : Each Told (rows_of q line lent)
   unfolding rows_of screen_rows byte_rows bytes
@@ -115,7 +111,7 @@ module _ (q : asked.Question) (line : List ℕ) (lent : ℕ) where
       (and-next (unless (Count (count_in bytes)) (count_right q bytes) (λ e. refl))
       no_more))))))))))
 
-  pub carried : (why : Refusal) → judge_of q line lent ≡ Refused why → Carried q line why
+  pub carried : (why : Refusal) → judge_of q line lent ≡ Err why → Carried q line why
   unfolding judge_of Told
   carried why e =
       let tells = by_screened (first_fault (rows_of q line lent)) (first_of_each Told tt (rows_of q line lent) told) e in
@@ -126,6 +122,6 @@ module _ (q : asked.Question) (line : List ℕ) (lent : ℕ) where
         count = λ b is. subst CarriedBy is tells;
       }
     where
-      by_screened : (s : Screened) → Told s → said s (taken_of q (bytes_of line)) ≡ Refused why → CarriedBy why
-      by_screened Passed tells e = absurd (no_row_is_zero why (sym (ap number_of e) ∙ taken_number))
-      by_screened (Faulty other) tells e = let same : other ≡ why = cc in subst CarriedBy same tells
+      by_screened : (s : Said) → Told s → said s (taken_of q (bytes_of line)) ≡ Err why → CarriedBy why
+      by_screened (Ok pass) tells e = absurd (no_row_is_zero why (sym (ap number_of e) ∙ taken_number))
+      by_screened (Err other) tells e = let same : other ≡ why = cc in subst CarriedBy same tells

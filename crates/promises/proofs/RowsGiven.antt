@@ -16,7 +16,7 @@ use Rattle.characters.specs.Nibble.{is_nibble}
 use Rattle.character_check.specs.Check.{is_character}
 use Rattle.scanning.specs.Place.{first_no_character, first_no_nibble}
 use Rattle.scanning.specs.Frame.{framed}
-use Rattle.scanning.specs.declared.Place.TheVariants.{At, Nowhere}
+use Rattle.std.specs.Prelude.{Some, None}
 use Rattle.scanning.proofs.FirstPlace.{at_first, nowhere_passes, characters_along, nibbles_along}
 use Rattle.questions.specs.Question.{by_form}
 use Rattle.questions.specs.Shape.{shape_of}
@@ -37,21 +37,21 @@ never e f = true≢false (sym e ∙ f)
 -- ---- 4 CHARACTER and 6 MANCHESTER
 
 module _ (line : List ℕ) where
-  pub no_character : (i : ℕ) → first_no_character line ≡ At i → Lowest is_character line 0 i
+  pub no_character : (i : ℕ) → first_no_character line ≡ Some i → Lowest is_character line 0 i
   no_character i e =
       let at = at_first is_character line 0 (length line) i (sym (characters_along line) ∙ e) in
       record { from = at.from; below = omega (arith, at.below); fails = at.fails; lower_pass = at.passes }
 
-  pub all_characters : first_no_character line ≡ Nowhere → (i : ℕ) × (i < length line) × (is_character (get_or line i 0) ≡ false) → ⊥
+  pub all_characters : first_no_character line ≡ None → (i : ℕ) × (i < length line) × (is_character (get_or line i 0) ≡ false) → ⊥
   all_characters e (i, below, fails) =
       never (nowhere_passes is_character line 0 (length line) (sym (characters_along line) ∙ e) i (omega arith) (omega arith)) fails
 
-  pub no_nibble : (i : ℕ) → first_no_nibble line ≡ At i → Lowest is_nibble line 1 i
+  pub no_nibble : (i : ℕ) → first_no_nibble line ≡ Some i → Lowest is_nibble line 1 i
   no_nibble i e =
       let at = at_first is_nibble line 1 (length line - 2) i (sym (nibbles_along line) ∙ e) in
       record { from = at.from; below = omega (arith, at.below, at.from); fails = at.fails; lower_pass = at.passes }
 
-  pub all_nibbles : first_no_nibble line ≡ Nowhere → (i : ℕ) × (1 ≤ i) × (i + 1 < length line) × (is_nibble (get_or line i 0) ≡ false) → ⊥
+  pub all_nibbles : first_no_nibble line ≡ None → (i : ℕ) × (1 ≤ i) × (i + 1 < length line) × (is_nibble (get_or line i 0) ≡ false) → ⊥
   all_nibbles e (i, from, below, fails) =
       never (nowhere_passes is_nibble line 1 (length line - 2) (sym (nibbles_along line) ∙ e) i from (omega arith)) fails
 

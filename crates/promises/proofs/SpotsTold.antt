@@ -9,6 +9,7 @@ use lib.Dec.{eqb, lit<}
 use lib.ListN.{length, get_or, take, drop, length-drop}
 use lib.Seq.{take_at}
 use borrow.Author.Tests.{eqb-true, eqb-false}
+use Rattle.std.specs.Prelude.{Some, None}
 use Rattle.ground.specs.Sweep.{tabulated}
 use Rattle.ground.proofs.Sweep.{length_tabulated, tabulated_same}
 use Rattle.ground.proofs.Lists.{tabulated_front}
@@ -29,7 +30,6 @@ use Rattle.readings.specs.Reading.{refusal_number}
 use Rattle.readings.specs.declared.Refusal.{Refusal}
 use Rattle.readings.specs.declared.Refusal.TheVariants.{Length, Character, Frame, Manchester, Pec, Alive, Check, Count}
 use Rattle.reasons.specs.Reason.{at_line, at_word, at_byte, last_place, at_ends, at_pec, at_alive, at_check}
-use Rattle.reasons.specs.declared.Right.TheVariants.{One, Several}
 use Rattle.reasons.proofs.Told.{the_first_word, the_last_word}
 use Rattle.promises.specs.Rows.{check_in, count_in, Lowest}
 use Rattle.promises.specs.TellMeWhy.{Passes, Told}
@@ -54,7 +54,7 @@ module _ (q : asked.Question) (line : List ℕ) where
         right = (refl, λ x e. e);
       }
 
-  pub told_character : (i : ℕ) → Early q line (Character i) → Lowest is_character line 0 i → Told q line (at_word line (Character i) i Several)
+  pub told_character : (i : ℕ) → Early q line (Character i) → Lowest is_character line 0 i → Told q line (at_word line (Character i) i None)
   told_character i early at =
       record {
         place = i;
@@ -70,7 +70,7 @@ module _ (q : asked.Question) (line : List ℕ) where
   unfolding nibble_word word_of
   nibble_order = lit< tt
 
-  pub told_manchester : (i : ℕ) → Early q line (Manchester i) → Lowest is_nibble line 1 i → Told q line (at_word line (Manchester i) i Several)
+  pub told_manchester : (i : ℕ) → Early q line (Manchester i) → Lowest is_nibble line 1 i → Told q line (at_word line (Manchester i) i None)
   told_manchester i early at =
       record {
         place = i;
@@ -83,7 +83,7 @@ module _ (q : asked.Question) (line : List ℕ) where
       }
 
   module _ (early : Early q line Frame) (long : 8 ≤ length line) where
-    first : (get_or line 0 0 ≡ preamble → ⊥) → Told q line (at_word line Frame 0 (One preamble))
+    first : (get_or line 0 0 ≡ preamble → ⊥) → Told q line (at_word line Frame 0 (Some preamble))
     first other =
         record {
           place = 0;
@@ -99,7 +99,7 @@ module _ (q : asked.Question) (line : List ℕ) where
     end : suc (last_place line) ≡ length line
     end = omega (arith, length-drop 1 line)
 
-    last : get_or line 0 0 ≡ preamble → (get_last_d line 0 ≡ stop → ⊥) → Told q line (at_word line Frame (last_place line) (One stop))
+    last : get_or line 0 0 ≡ preamble → (get_last_d line 0 ≡ stop → ⊥) → Told q line (at_word line Frame (last_place line) (Some stop))
     last begins other =
         let place : length line - 1 ≡ last_place line = omega (arith, end) in
         record {
@@ -186,7 +186,7 @@ module _ (q : asked.Question) (line : List ℕ) (fits : length line ≡ (shape_o
       }
 
   pub told_count : (b : ℕ) → Early q line (Count b) → (q.kind ≡ 0) × ((count_in (bytes_of line) ≡ 0) ⊎ (32 < count_in (bytes_of line)))
-      → Told q line (at_byte line (Count b) 2 Several)
+      → Told q line (at_byte line (Count b) 2 None)
   told_count b early (hello, out) =
       record {
         place = 2;

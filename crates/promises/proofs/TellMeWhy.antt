@@ -6,6 +6,7 @@ use mathlib.Core.List.{List}
 use Prim.Native.Nat.{ℕ, ◌+◌, ◌≤◌, ◌<◌, min}
 use native.Mathlib.Omega.{arith}
 use lib.ListN.{length}
+use Rattle.std.specs.Prelude.{Result, Ok, Err}
 use Rattle.ground.proofs.Test.{below_or_not}
 use Rattle.questions.specs.Question.{good_question}
 use Rattle.questions.specs.Shape.{shape_of}
@@ -14,8 +15,8 @@ use Rattle.questions.proofs.Good.{good_values, words_least}
 use Rattle.readings.specs.Reading.{refusal_number, number_of}
 use Rattle.readings.specs.declared.Refusal.{Refusal}
 use Rattle.readings.specs.declared.Refusal.TheVariants.{Question, Room, Length, Character, Frame, Manchester, Echo, Pec, Alive, Check, Count}
-use Rattle.readings.specs.declared.Reading.{Reading}
-use Rattle.readings.specs.declared.Reading.TheVariants.{Counted, Written, Values, Refused}
+use Rattle.readings.specs.declared.Taken.{Taken}
+use Rattle.readings.specs.declared.Taken.TheVariants.{Counted, Written, Values}
 use Rattle.judging.specs.Judge.{judge_of}
 use Rattle.judging.proofs.Bounds.{room_enough, enough_room}
 use Rattle.reasons.specs.Reason.{because_of, reason_for, reason_of}
@@ -54,7 +55,7 @@ module _ (q : asked.Question) (line : List ℕ) where
 
   -- ---- turned away
 
-  module _ (named : Refusal) (is : judge_of q line 32 ≡ Refused named) where
+  module _ (named : Refusal) (is : judge_of q line 32 ≡ Err named) where
     number : number_of (judge_of q line 32) ≡ 1 + before named
     number = ap number_of is ∙ by_order named
 
@@ -74,7 +75,7 @@ module _ (q : asked.Question) (line : List ℕ) where
     fits : 2 < before named → length line ≡ (shape_of q).words
     fits later = early_pass Length (omega (arith, by_order named)) 0
 
-  told : (why : Refusal) → judge_of q line 32 ≡ Refused why → Told q line (because_of q line why)
+  told : (why : Refusal) → judge_of q line 32 ≡ Err why → Told q line (because_of q line why)
   told Question is = told_field q line (given Question is) (early_pass Question is)
   told Room is = absurd (omega (arith, given Room is, good_values q (good Room is (omega arith))))
   told Length is = told_length q line (early_pass Length is) (given Length is)
@@ -93,11 +94,11 @@ module _ (q : asked.Question) (line : List ℕ) where
 
   -- ---- by what the reader says
 
-  tells : (r reading : Reading) → r ≡ judge_of q line 32 → judge_of q line 32 ≡ reading → TrueOf q line r (reason_for q line reading)
-  tells r (Counted n) says is = (ap number_of (says ∙ is), all_pass (ap number_of is))
-  tells r Written says is = (ap number_of (says ∙ is), all_pass (ap number_of is))
-  tells r (Values m) says is = (ap number_of (says ∙ is), all_pass (ap number_of is))
-  tells r (Refused why) says is = (says ∙ is ∙ ap Refused (sym (same_why q line why)), told why is)
+  tells : (r reading : Result Taken Refusal) → r ≡ judge_of q line 32 → judge_of q line 32 ≡ reading → TrueOf q line r (reason_for q line reading)
+  tells r (Ok (Counted n)) says is = (ap number_of (says ∙ is), all_pass (ap number_of is))
+  tells r (Ok Written) says is = (ap number_of (says ∙ is), all_pass (ap number_of is))
+  tells r (Ok (Values m)) says is = (ap number_of (says ∙ is), all_pass (ap number_of is))
+  tells r (Err why) says is = (says ∙ is ∙ ap Err (sym (same_why q line why)), told why is)
 
 pub tell_me_why : TellMeWhy
 unfolding reason_of

@@ -4,18 +4,18 @@ use mathlib.Core.List.{List}
 use Prim.Native.Nat.{ℕ, ◌<◌}
 use native.Mathlib.Omega.{arith}
 use lib.ListN.{length}
+use Rattle.std.specs.Prelude.{Result, Ok, Err}
 use Rattle.packing.specs.Words.{line_on}
 use Rattle.questions.specs.declared.question.Question.{Question}
 use Rattle.readings.specs.Reading.{refusal_number, number_of}
-use Rattle.readings.specs.declared.Reading.{Reading}
-use Rattle.readings.specs.declared.Reading.TheVariants.{Counted, Written, Values, Refused}
+use Rattle.readings.specs.declared.Refusal.{Refusal}
+use Rattle.readings.specs.declared.Taken.{Taken}
+use Rattle.readings.specs.declared.Taken.TheVariants.{Counted, Written, Values}
 use Rattle.judging.specs.Judge.{judge_of}
 use Rattle.reasons.specs.Reason.{reason_for, reason_of, reason_number}
 use Rattle.reasons.specs.declared.Spot.{Spot}
 use Rattle.reasons.specs.declared.Spot.TheVariants.{Asked, Whole, Word, Byte}
 use Rattle.reasons.specs.declared.Because.{Because}
-use Rattle.reasons.specs.declared.Reason.{Reason}
-use Rattle.reasons.specs.declared.Reason.TheVariants.{Accepted, TurnedAway}
 use Rattle.reasons.proofs.Told.{same_why}
 use Rattle.c_reasons.specs.Explain.{counted_in, in_bytes, reason_on, packed_reason, packed_on}
 use Rattle.promises.specs.ByNumber.{NumberDue, packed_number}
@@ -24,11 +24,11 @@ use Rattle.promises.proofs.ByNumber.{Small, below_256}
 use Rattle.promises.proofs.Rows.{by_number}
 
 module _ (q : Question) (line : List ℕ) where
-  of_reading : (r : Reading) → number_of r ≡ reason_number (reason_for q line r)
-  of_reading (Counted n) = refl
-  of_reading Written = refl
-  of_reading (Values m) = refl
-  of_reading (Refused why) = ap refusal_number (sym (same_why q line why))
+  of_reading : (r : Result Taken Refusal) → number_of r ≡ reason_number (reason_for q line r)
+  of_reading (Ok (Counted n)) = refl
+  of_reading (Ok Written) = refl
+  of_reading (Ok (Values m)) = refl
+  of_reading (Err why) = ap refusal_number (sym (same_why q line why))
 
   pub explain_due : NumberDue (read_rows q line 32) (reason_number (reason_of q line))
   unfolding reason_of
@@ -41,9 +41,9 @@ same_number q bytes b Whole = refl
 same_number q bytes b (Word i) = refl
 same_number q bytes b (Byte i) = refl
 
-in_bytes_lem : (q : Question) (bytes : ℕ) (reason : Reason) → reason_number reason ≡ reason_number (in_bytes q bytes reason)
-in_bytes_lem q bytes Accepted = refl
-in_bytes_lem q bytes (TurnedAway b) = ap refusal_number (same_number q bytes b b.spot)
+in_bytes_lem : (q : Question) (bytes : ℕ) (reason : Result (Unit {0}) Because) → reason_number reason ≡ reason_number (in_bytes q bytes reason)
+in_bytes_lem q bytes (Ok pass) = refl
+in_bytes_lem q bytes (Err b) = ap refusal_number (same_number q bytes b b.spot)
 
 pub explain_bytes_due : (q : Question) (line : List ℕ) → NumberDue (read_rows q (line_on line) 32) (reason_number (reason_on q line))
 unfolding reason_on
@@ -51,9 +51,9 @@ explain_bytes_due q line =
     subst (NumberDue (read_rows q (line_on line) 32)) (in_bytes_lem q (length line) (reason_of q (line_on line))) (explain_due q (line_on line))
 
 -- packed, it stands in the lowest eight bits
-packed : (reason : Reason) → reason_number reason < 256 → reason_number reason ≡ packed_number (packed_reason reason)
-packed Accepted small = refl
-packed (TurnedAway b) small = omega (arith, small)
+packed : (reason : Result (Unit {0}) Because) → reason_number reason < 256 → reason_number reason ≡ packed_number (packed_reason reason)
+packed (Ok pass) small = refl
+packed (Err b) small = omega (arith, small)
 
 small_rows : (q : Question) (line : List ℕ) → Small (read_rows q line 32)
 small_rows q line =

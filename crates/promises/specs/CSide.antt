@@ -1,9 +1,10 @@
 -- THE C SIDE (document 01, "The C side"): the parts of the one number that a program gets back. Its question is that of the seven numbers that it
 -- passes, as each export's own line says (`asking`).
-use Rattle.std.specs.Prelude.{◌≡◌, ℕ, ◌/◌, ◌%◌}
+use Rattle.std.specs.Prelude.{◌≡◌, ℕ, ◌/◌, ◌%◌, Result, Ok, Err}
 use Rattle.readings.specs.declared.Refusal.TheVariants as row
-use Rattle.readings.specs.declared.Reading.{Reading}
-use Rattle.readings.specs.declared.Reading.TheVariants.{Counted, Written, Values, Refused}
+use Rattle.readings.specs.declared.Refusal.{Refusal}
+use Rattle.readings.specs.declared.Taken.{Taken}
+use Rattle.readings.specs.declared.Taken.TheVariants.{Counted, Written, Values}
 use Rattle.promises.specs.ByNumber.{packed_number}
 
 -- bits 16 to 31 of an answer
@@ -18,18 +19,18 @@ pub record Parts (r a b c : ℕ) : Type 0 where
 
 -- what stands there for a reading: its number; HELLOALL's count, or the byte of CHECK and COUNT; how many values, or the place of CHARACTER and
 -- MANCHESTER
-abbrev pub PackedAs : (r : ℕ) → Reading → Type 0
-PackedAs r (Counted n) = Parts r 0 n 0
-PackedAs r Written = Parts r 0 0 0
-PackedAs r (Values m) = Parts r 0 0 m
-PackedAs r (Refused row.Question) = Parts r 1 0 0
-PackedAs r (Refused row.Room) = Parts r 2 0 0
-PackedAs r (Refused row.Length) = Parts r 3 0 0
-PackedAs r (Refused (row.Character i)) = Parts r 4 0 i
-PackedAs r (Refused row.Frame) = Parts r 5 0 0
-PackedAs r (Refused (row.Manchester i)) = Parts r 6 0 i
-PackedAs r (Refused row.Echo) = Parts r 7 0 0
-PackedAs r (Refused row.Pec) = Parts r 8 0 0
-PackedAs r (Refused row.Alive) = Parts r 9 0 0
-PackedAs r (Refused (row.Check b)) = Parts r 10 b 0
-PackedAs r (Refused (row.Count b)) = Parts r 11 b 0
+abbrev pub PackedAs : (r : ℕ) → Result Taken Refusal → Type 0
+PackedAs r (Ok (Counted n)) = Parts r 0 n 0
+PackedAs r (Ok Written) = Parts r 0 0 0
+PackedAs r (Ok (Values m)) = Parts r 0 0 m
+PackedAs r (Err row.Question) = Parts r 1 0 0
+PackedAs r (Err row.Room) = Parts r 2 0 0
+PackedAs r (Err row.Length) = Parts r 3 0 0
+PackedAs r (Err (row.Character i)) = Parts r 4 0 i
+PackedAs r (Err row.Frame) = Parts r 5 0 0
+PackedAs r (Err (row.Manchester i)) = Parts r 6 0 i
+PackedAs r (Err row.Echo) = Parts r 7 0 0
+PackedAs r (Err row.Pec) = Parts r 8 0 0
+PackedAs r (Err row.Alive) = Parts r 9 0 0
+PackedAs r (Err (row.Check b)) = Parts r 10 b 0
+PackedAs r (Err (row.Count b)) = Parts r 11 b 0

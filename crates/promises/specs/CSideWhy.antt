@@ -3,7 +3,7 @@
 -- LENGTH), of which TellMeWhy.antt says what is true; LENGTH alone is told in bytes, and that many bytes and no other number make that many words;
 -- `bmc_explain` answers 0 where that is accepted, and otherwise a number of 64 bits whose parts are those of the reason. In sixteen bits 65,535 stands for
 -- that and more.
-use Rattle.std.specs.Prelude.{◌≡◌, List, ℕ, ◌*◌, ◌/◌, ◌%◌, ◌≤◌, min, length}
+use Rattle.std.specs.Prelude.{◌≡◌, List, ℕ, ◌*◌, ◌/◌, ◌%◌, ◌≤◌, min, length, Result, Ok, Err, Option, Some, None}
 use Rattle.packing.specs.Words.{line_on}
 use Rattle.questions.specs.declared.question.Question.{Question}
 use Rattle.readings.specs.Reading.{refusal_number}
@@ -11,19 +11,15 @@ use Rattle.reasons.specs.Reason.{reason_of}
 use Rattle.reasons.specs.declared.Field.TheVariants as field
 use Rattle.reasons.specs.declared.Spot.{Spot}
 use Rattle.reasons.specs.declared.Spot.TheVariants.{Asked, Whole, Word, Byte}
-use Rattle.reasons.specs.declared.Right.{Right}
-use Rattle.reasons.specs.declared.Right.TheVariants.{One, Several}
 use Rattle.reasons.specs.declared.Because.{Because}
-use Rattle.reasons.specs.declared.Reason.{Reason}
-use Rattle.reasons.specs.declared.Reason.TheVariants.{Accepted, TurnedAway}
 use Rattle.c_reasons.specs.Explain.{in_bytes, reason_on, packed_on}
 use Rattle.promises.specs.ByNumber.{packed_number}
 use Rattle.promises.specs.Demand1.{Returns}
 
 -- the one thing that would have passed: bit 11 is set and it stands in bits 48 to 63; where there are several these are 0. Bits 12 to 15 are always 0
-abbrev pub RightParts : (r : ℕ) → Right → Type 0
-RightParts r (One x) = (r / 2048 % 32 ≡ 1) × (r / 281474976710656 ≡ min x 65535)
-RightParts r Several = (r / 2048 % 32 ≡ 0) × (r / 281474976710656 ≡ 0)
+abbrev pub RightParts : (r : ℕ) → Option ℕ → Type 0
+RightParts r (Some x) = (r / 2048 % 32 ≡ 1) × (r / 281474976710656 ≡ min x 65535)
+RightParts r None = (r / 2048 % 32 ≡ 0) × (r / 281474976710656 ≡ 0)
 
 -- bits 0 to 7 the number, bits 8 to 10 how it is placed, bits 16 to 31 the place, bits 32 to 47 what stood
 pub record WhyParts (r : ℕ) (b : Because) (how place : ℕ) : Type 0 where
@@ -43,13 +39,13 @@ PackedAs r b (Asked field.Devices) = WhyParts r b 4 1
 PackedAs r b (Asked field.Alive) = WhyParts r b 4 2
 PackedAs r b (Asked field.Device) = WhyParts r b 4 5
 
-abbrev pub PackedWhy : (r : ℕ) → Reason → Type 0
-PackedWhy r Accepted = r ≡ 0
-PackedWhy r (TurnedAway b) = PackedAs r b b.spot
+abbrev pub PackedWhy : (r : ℕ) → Result (Unit {0}) Because → Type 0
+PackedWhy r (Ok pass) = r ≡ 0
+PackedWhy r (Err b) = PackedAs r b b.spot
 
 pub record CSideWhy : Type 0 where
-  pub in_bytes_lem : (q : Question) (line : List ℕ) (told reason : Reason) → Returns (reason_on q line) told → Returns (reason_of q (line_on line)) reason
+  pub in_bytes_lem : (q : Question) (line : List ℕ) (told reason : Result (Unit {0}) Because) → Returns (reason_on q line) told → Returns (reason_of q (line_on line)) reason
       → told ≡ in_bytes q (length line) reason
   pub only_bytes : (line : List ℕ) (words : ℕ) → 1 ≤ words
       → (length line ≡ 2 * words → length (line_on line) ≡ words) × (length (line_on line) ≡ words → length line ≡ 2 * words)
-  pub packed : (q : Question) (line : List ℕ) (r : ℕ) (told : Reason) → Returns (packed_on q line) r → Returns (reason_on q line) told → PackedWhy r told
+  pub packed : (q : Question) (line : List ℕ) (r : ℕ) (told : Result (Unit {0}) Because) → Returns (packed_on q line) r → Returns (reason_on q line) told → PackedWhy r told

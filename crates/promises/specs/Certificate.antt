@@ -6,11 +6,12 @@
 -- exactly the devices that deserve a letter: those that the last write entry whose question is good covers, with S where of the accepted reads of that
 -- register that come after the write and cover the device the latest shows the value written, in its masked bits, O where it shows another, U where
 -- there is no such read. Nothing else is printed, and without a good write there is no D line. What the masks leave as it was: MaskedBits.antt.
-use Rattle.std.specs.Prelude.{◌≡◌, ℕ, ◌/◌, ◌≤◌, length, take}
+use Rattle.std.specs.Prelude.{◌≡◌, ℕ, ◌/◌, ◌≤◌, length, take, Result, Ok}
 use mathlib.Core.List.{List, [], ◌++◌, map, Forall₂}
 use Rattle.remainder.specs.Turned.{Bytes}
 use Rattle.readings.specs.Reading.{number_of, values_taken}
-use Rattle.readings.specs.declared.Reading.{Reading}
+use Rattle.readings.specs.declared.Refusal.{Refusal}
+use Rattle.readings.specs.declared.Taken.{Taken}
 use Rattle.reader.specs.Read.{ReadDone}
 use Rattle.jobs.specs.declared.Header.{Header}
 use Rattle.jobs.specs.Format.{Entry, asked}
@@ -19,7 +20,6 @@ use Rattle.letters.specs.Letters.{Heard}
 use Rattle.letters.specs.Meaning.{None, good_write, shown_masked, Deserves}
 use Rattle.printing.specs.Text.{head_line, device_line, first_lines, entry_lines}
 use Rattle.certificate.specs.Certificate.{CertificateDone, certified_number, most_text}
-use Rattle.certificate.specs.declared.Certified.TheVariants as certified
 use Rattle.bmc.specs.Exports.{CertificateBytesDone}
 use Rattle.promises.specs.ByNumber.{packed_number}
 use Rattle.promises.specs.WhereDue.{WhereDue}
@@ -29,7 +29,7 @@ use Rattle.promises.specs.WhereDue.{WhereDue}
 pub record FromReader (h : Header) (e : Entry) (x : Heard) : Type 0 where
   pub question : x.question ≡ asked h e
   pub mask : x.mask ≡ e.mask
-  pub answer : (before after : List ℕ) (r : Reading) → length before ≡ 32 → ReadDone (asked h e) e.words before after r
+  pub answer : (before after : List ℕ) (r : Result Taken Refusal) → length before ≡ 32 → ReadDone (asked h e) e.words before after r
       → (x.reading ≡ r) × (x.values ≡ take (values_taken r) after)
 
 -- device a's line, by what it is for a value to show what was written: `D a v` where it deserves the letter v, and none where it deserves no letter
@@ -69,7 +69,7 @@ pub record PrintedCertificate : Type 0 where
   -- written where it is due: by `certify`, whose answer says how many bytes were written;
   pub certify : (file before : List ℕ) → Bytes file
       → WhereDue certified_number before (CertificateDone file before) Unit (CertificateDue file before)
-      (λ text r. r ≡ certified.Bytes (length text)) (λ text. text)
+      (λ text r. r ≡ Ok (length text)) (λ text. text)
   -- and by C's call, where bits 8 to 31 say so
   pub in_bytes : (file before : List ℕ) → Bytes file
       → WhereDue packed_number before (CertificateBytesDone file before) Unit (CertificateDue file before)

@@ -6,17 +6,16 @@
 -- write, the one answer; of HELLOALL, some count 1..32), and what is handed out is those values, HELLOALL's count being the byte on the line;
 -- an answer is refused exactly where a row of "Turned away" is given, by the first row that is, and with its place or byte.
 -- What is claimed of the certificate stands in Certificate.antt.
-use Rattle.std.specs.Prelude.{◌≡◌, true, List, ℕ, ◌≤◌, length}
+use Rattle.std.specs.Prelude.{◌≡◌, true, List, ℕ, ◌≤◌, length, Result, Ok, Err}
 use Rattle.lines.specs.Line.{bytes_of}
 use Rattle.questions.specs.Question.{hello_all, good_question}
 use Rattle.questions.specs.Shape.{shape_of}
 use Rattle.questions.specs.declared.question.Question.{Question}
 use Rattle.commands.specs.Command.{command_line, CommandPut, issued_number}
-use Rattle.commands.specs.declared.Issued.TheVariants.{Words}
 use Rattle.readings.specs.Reading.{number_of}
 use Rattle.readings.specs.declared.Refusal.{Refusal}
-use Rattle.readings.specs.declared.Reading.{Reading}
-use Rattle.readings.specs.declared.Reading.TheVariants.{Counted, Refused}
+use Rattle.readings.specs.declared.Taken.{Taken}
+use Rattle.readings.specs.declared.Taken.TheVariants.{Counted}
 use Rattle.reader.specs.Read.{ReadDone}
 use Rattle.acceptance.specs.Answer.{AnswerTo, Sendable, reading_of, handed_out}
 use Rattle.promises.specs.ByNumber.{NumberDue}
@@ -38,19 +37,19 @@ pub record Due (q : Question) (line : List ℕ) (lent : ℕ) (values : List ℕ)
 pub record Demand2 : Type 0 where
   -- commands: written where due, and the answer says how many words they have
   pub commands : (q : Question) (before : List ℕ)
-      → WhereDue issued_number before (CommandPut q before) Unit (CommandDue q (length before)) (λ line r. r ≡ Words (length line)) (λ line. line)
+      → WhereDue issued_number before (CommandPut q before) Unit (CommandDue q (length before)) (λ line r. r ≡ Ok (length line)) (λ line. line)
   -- answers: accepted where due, for some values; the reading is that answer's, and those values are handed out
   pub answers : (q : Question) (line before : List ℕ)
       → WhereDue number_of before (ReadDone q line before) (Sendable q) (Due q line (length before)) (λ values r. r ≡ reading_of q values) (handed_out q)
   -- HELLOALL's count is the third byte of the line, whatever n the question has
-  pub hello_count : (q : Question) (line before after : List ℕ) (r : Reading) → ReadDone q line before after r
-      → q.kind ≡ hello_all → number_of r ≡ 0 → r ≡ Counted (count_in (bytes_of line))
+  pub hello_count : (q : Question) (line before after : List ℕ) (r : Result Taken Refusal) → ReadDone q line before after r
+      → q.kind ≡ hello_all → number_of r ≡ 0 → r ≡ Ok (Counted (count_in (bytes_of line)))
   -- turned away exactly where a row of the table is given, and by the first that is,
-  pub by_rows : (q : Question) (line before after : List ℕ) (r : Reading) → ReadDone q line before after r
+  pub by_rows : (q : Question) (line before after : List ℕ) (r : Result Taken Refusal) → ReadDone q line before after r
       → NumberDue (read_rows q line (length before)) (number_of r)
   -- with the place or the byte that the row has
-  pub carried : (q : Question) (line before after : List ℕ) (r : Reading) → ReadDone q line before after r
-      → (why : Refusal) → r ≡ Refused why → Carried q line why
+  pub carried : (q : Question) (line before after : List ℕ) (r : Result Taken Refusal) → ReadDone q line before after r
+      → (why : Refusal) → r ≡ Err why → Carried q line why
   -- command and answer have equal length, and never more than 140 words
   pub equal_length : (q : Question) → good_question q ≡ true → Sendable q → (values line : List ℕ) → AnswerTo q values line
       → (length line ≡ length (command_line q)) × (length line ≤ 140)

@@ -3,14 +3,13 @@
 -- on that command with HELLOALL's last byte and the alive byte one more and its own value directly after the register byte, and of its registers
 -- it changes those that a write reaches, to the value written, and no others; any other line passes unchanged, and no register changes; no other
 -- device's registers ever change; and the line handed on is as long as the line taken.
-use Rattle.std.specs.Prelude.{◌≡◌, cond, List, ◌++◌, ℕ, suc, ◌*◌, ◌≤◌, ◌<◌, length}
+use Rattle.std.specs.Prelude.{Result, Ok, ⊤, ◌≡◌, cond, List, ◌++◌, ℕ, suc, ◌*◌, ◌≤◌, ◌<◌, length}
 use Rattle.lines.specs.Line.{line_of}
 use Rattle.lines.specs.Write.{at_front}
 use Rattle.questions.specs.Bytes.{on_wire, low_high}
 use Rattle.underway.specs.OnTheWay.{on_the_way}
 use Rattle.twin.specs.Step.{registers_of, StepDone}
-use Rattle.twin.specs.declared.step.Stepped.{Stepped}
-use Rattle.twin.specs.declared.step.Stepped.TheVariants.{Handed}
+use Rattle.twin.specs.declared.step.StepRefusal.{StepRefusal}
 use Rattle.roundtrip.specs.Between.{held, reaches}
 use Rattle.roundtrip.specs.Commands.{CommandFor}
 
@@ -20,8 +19,8 @@ command_handed_on k memory c =
     line_of (on_the_way c.question (suc k) 1 (low_high (held memory k c.question.reg) ++ on_wire c.values))
 
 -- what a step of device k leaves of a line and of all registers
-pub record ByItsRule (n k : ℕ) (memory memory_left line out out_after : List ℕ) (r : Stepped) : Type 0 where
-  pub says : r ≡ Handed
+pub record ByItsRule (n k : ℕ) (memory memory_left line out out_after : List ℕ) (r : Result ⊤ StepRefusal) : Type 0 where
+  pub says : r ≡ Ok tt
   pub handed : List ℕ
   pub stands : out_after ≡ at_front handed out
   pub equal_length : length handed ≡ length line
@@ -34,7 +33,7 @@ pub record ByItsRule (n k : ℕ) (memory memory_left line out out_after : List �
 
 abbrev pub EachStep : Type 0
 EachStep =
-    (n k : ℕ) (memory memory_left line out out_after : List ℕ) (r : Stepped)
+    (n k : ℕ) (memory memory_left line out out_after : List ℕ) (r : Result ⊤ StepRefusal)
     → 1 ≤ n → n ≤ 32 → k < n → length memory ≡ 256 * n → length line ≤ length out
     → StepDone n k memory memory_left line out out_after r
     → ByItsRule n k memory memory_left line out out_after r

@@ -2,20 +2,20 @@
 -- writes, through all devices by `run_chain`, is the right answer for the registers as they stand; `read` accepts it and hands out each
 -- device's register in address order; after WRITEALL every device holds the value (register 0x00 excepted), after WRITEDEVICE exactly that
 -- one; reads and HELLOALL change no register. Claimed of every answer that meets the three contracts.
-use Rattle.std.specs.Prelude.{◌≡◌, true, List, ℕ, ◌*◌, ◌≤◌, length, take}
+use Rattle.std.specs.Prelude.{Result, Ok, ⊤, ◌≡◌, true, List, ℕ, ◌*◌, ◌≤◌, length, take}
 use Rattle.lines.specs.Write.{at_front}
 use Rattle.questions.specs.Question.{good_question}
 use Rattle.questions.specs.Shape.{shape_of}
 use Rattle.questions.specs.declared.question.Question.{Question}
 use Rattle.commands.specs.Command.{command_line, CommandPut}
-use Rattle.commands.specs.declared.Issued.{Issued}
+use Rattle.commands.specs.declared.CommandRefusal.{CommandRefusal}
 use Rattle.readings.specs.Reading.{number_of}
-use Rattle.readings.specs.declared.Reading.{Reading}
+use Rattle.readings.specs.declared.Refusal.{Refusal}
+use Rattle.readings.specs.declared.Taken.{Taken}
 use Rattle.reader.specs.Read.{ReadDone}
 use Rattle.acceptance.specs.Answer.{AnswerTo, Registers, Sendable, reading_of, handed_out}
 use Rattle.twin.specs.Step.{ChainDone}
-use Rattle.twin.specs.declared.step.Stepped.{Stepped}
-use Rattle.twin.specs.declared.step.Stepped.TheVariants.{Handed}
+use Rattle.twin.specs.declared.step.StepRefusal.{StepRefusal}
 use Rattle.roundtrip.specs.Between.{brought_back, ChangedBy}
 
 -- a good question put to a chain of n devices: HELLOALL, or one that names their number; and 256 registers for each device
@@ -30,8 +30,8 @@ pub record PutTo (q : Question) (n : ℕ) (memory : List ℕ) : Type 0 where
 
 -- the chain hands the line on; it is the right answer for the registers as they stand, as long as the command and at the front of the
 -- output; and afterwards each register holds the written value where the write reaches it, and what it held where not
-pub record Trip (q : Question) (n : ℕ) (memory memory_left out out_after : List ℕ) (r : Stepped) : Type 0 where
-  pub handed : r ≡ Handed
+pub record Trip (q : Question) (n : ℕ) (memory memory_left out out_after : List ℕ) (r : Result ⊤ StepRefusal) : Type 0 where
+  pub handed : r ≡ Ok tt
   pub answer : List ℕ
   pub words : length answer ≡ length (command_line q)
   pub right : AnswerTo q (brought_back q n memory) answer
@@ -41,14 +41,14 @@ pub record Trip (q : Question) (n : ℕ) (memory memory_left out out_after : Lis
 pub record RoundTrip : Type 0 where
   -- through the chain
   pub through : (q : Question) (n : ℕ) (memory : List ℕ) → PutTo q n memory
-      → (out out_after memory_left : List ℕ) (r : Stepped) → ChainDone n memory memory_left (command_line q) out out_after r
+      → (out out_after memory_left : List ℕ) (r : Result ⊤ StepRefusal) → ChainDone n memory memory_left (command_line q) out out_after r
       → length (command_line q) ≤ length out
       → Trip q n memory memory_left out out_after r
   -- and the whole way, call by call: what `write_command` wrote, as many words of it as the command has, through `run_chain`; and what stands
   -- in as many words of its output, read by `read`: the reader accepts what came back and hands out what the registers held; and what they hold
   -- then
   pub whole : (q : Question) (n : ℕ) (memory : List ℕ) → PutTo q n memory
-      → (written line out out_after memory_left before after : List ℕ) (issued : Issued) (r : Stepped) (reading : Reading)
+      → (written line out out_after memory_left before after : List ℕ) (issued : Result ℕ CommandRefusal) (r : Result ⊤ StepRefusal) (reading : Result Taken Refusal)
       → CommandPut q written line issued → length (command_line q) ≤ length written
       → ChainDone n memory memory_left (take (length (command_line q)) line) out out_after r → length (command_line q) ≤ length out
       → ReadDone q (take (length (command_line q)) out_after) before after reading → (shape_of q).values ≤ length before

@@ -4,7 +4,7 @@
 -- at the named spot with what stands there, it passes at every lower spot, and every earlier check passes at every spot;
 -- where one right thing is named, that thing and no other would have passed the named check there, with everything else as it stands; where none is
 -- named, at least two different things would have.
-use Rattle.std.specs.Prelude.{◌≡◌, true, ◌⊎◌, List, ℕ, zero, suc, ◌+◌, ◌*◌, ◌%◌, ◌≤◌, ◌<◌, min, length, get_or, take}
+use Rattle.std.specs.Prelude.{◌≡◌, true, ◌⊎◌, List, ℕ, zero, suc, ◌+◌, ◌*◌, ◌%◌, ◌≤◌, ◌<◌, min, length, get_or, take, Result, Err, Ok, Option, Some, None}
 use Rattle.pec.specs.Pec.{pec_of}
 use Rattle.characters.specs.Character.{preamble, stop}
 use Rattle.characters.specs.Nibble.{is_nibble}
@@ -16,18 +16,13 @@ use Rattle.questions.specs.declared.question.Question as asked
 use Rattle.readings.specs.Reading.{refusal_number, number_of}
 use Rattle.readings.specs.declared.Refusal.{Refusal}
 use Rattle.readings.specs.declared.Refusal.TheVariants.{Question, Room, Length, Character, Frame, Manchester, Echo, Pec, Alive, Check, Count}
-use Rattle.readings.specs.declared.Reading.{Reading}
-use Rattle.readings.specs.declared.Reading.TheVariants.{Refused}
+use Rattle.readings.specs.declared.Taken.{Taken}
 use Rattle.reader.specs.Read.{ReadDone}
 use Rattle.reasons.specs.Reason.{field_in, reason_of}
 use Rattle.reasons.specs.declared.Field.TheVariants as field
 use Rattle.reasons.specs.declared.Spot.{Spot}
 use Rattle.reasons.specs.declared.Spot.TheVariants.{Asked, Whole, Word, Byte}
-use Rattle.reasons.specs.declared.Right.{Right}
-use Rattle.reasons.specs.declared.Right.TheVariants.{One, Several}
 use Rattle.reasons.specs.declared.Because.{Because}
-use Rattle.reasons.specs.declared.Reason.{Reason}
-use Rattle.reasons.specs.declared.Reason.TheVariants.{Accepted, TurnedAway}
 use Rattle.promises.specs.Rows.{echo}
 use Rattle.promises.specs.Demand1.{Returns}
 
@@ -78,9 +73,9 @@ abbrev pub Passes : asked.Question → (line : List ℕ) → Refusal → (i : �
 Passes q line why i = Asks q line why i (thing_at q line (spot_at why i))
 
 -- the one thing that would have passed; or two that would
-abbrev pub Only : (Passing : ℕ → Type 0) → Right → Type 0
-Only Passing (One x) = Passing x × ((other : ℕ) → Passing other → other ≡ x)
-Only Passing Several = (x : ℕ) × (other : ℕ) × (x < other) × Passing x × Passing other
+abbrev pub Only : (Passing : ℕ → Type 0) → Option ℕ → Type 0
+Only Passing (Some x) = Passing x × ((other : ℕ) → Passing other → other ≡ x)
+Only Passing None = (x : ℕ) × (other : ℕ) × (x < other) × Passing x × Passing other
 
 -- what is told of a line that is turned away
 pub record Told (q : asked.Question) (line : List ℕ) (b : Because) : Type 0 where
@@ -93,11 +88,11 @@ pub record Told (q : asked.Question) (line : List ℕ) (b : Because) : Type 0 wh
   pub right : Only (Asks q line b.why place) b.right
 
 -- what is told, held to the reader's own reading
-abbrev pub TrueOf : asked.Question → (line : List ℕ) → Reading → Reason → Type 0
-TrueOf q line r Accepted = (number_of r ≡ 0) × ((why : Refusal) (i : ℕ) → Passes q line why i)
-TrueOf q line r (TurnedAway b) = (r ≡ Refused b.why) × Told q line b
+abbrev pub TrueOf : asked.Question → (line : List ℕ) → Result Taken Refusal → Result (Unit {0}) Because → Type 0
+TrueOf q line r (Ok pass) = (number_of r ≡ 0) × ((why : Refusal) (i : ℕ) → Passes q line why i)
+TrueOf q line r (Err b) = (r ≡ Err b.why) × Told q line b
 
 abbrev pub TellMeWhy : Type 0
 TellMeWhy =
-    (q : asked.Question) (line before after : List ℕ) (r : Reading) → ReadDone q line before after r → min (shape_of q).values 32 ≤ length before
-    → (reason : Reason) → Returns (reason_of q line) reason → TrueOf q line r reason
+    (q : asked.Question) (line before after : List ℕ) (r : Result Taken Refusal) → ReadDone q line before after r → min (shape_of q).values 32 ≤ length before
+    → (reason : Result (Unit {0}) Because) → Returns (reason_of q line) reason → TrueOf q line r reason

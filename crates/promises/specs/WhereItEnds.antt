@@ -1,14 +1,15 @@
 -- WHERE DEMAND 3 ENDS (document 01, "Distance, and where it ends"): none of its figures can be raised. From 15 devices on, four line bits turned
 -- over lead to another acceptable answer: bit 0 of device 14's low byte and bit 7 of the PEC, each with its complement. At 15 devices that byte
 -- is the first value byte. With any number of devices six do. Claimed of every good READALL question, whatever the values.
-use Rattle.std.specs.Prelude.{◌≡◌, List, ℕ, ◌≤◌, length, get_or, replicate, set}
+use Rattle.std.specs.Prelude.{◌≡◌, List, ℕ, ◌≤◌, length, get_or, replicate, set, Result, Ok}
 use Rattle.remainder.specs.Turned.{turned, weight}
 use Rattle.lines.specs.Write.{at_front}
 use Rattle.questions.specs.Question.{asking, read_all}
 use Rattle.questions.specs.declared.question.Question.{Question}
 use Rattle.reader.specs.Read.{ReadDone}
-use Rattle.readings.specs.declared.Reading.{Reading}
-use Rattle.readings.specs.declared.Reading.TheVariants.{Values}
+use Rattle.readings.specs.declared.Refusal.{Refusal}
+use Rattle.readings.specs.declared.Taken.{Taken}
+use Rattle.readings.specs.declared.Taken.TheVariants.{Values}
 use Rattle.promises.specs.Demand3.{ReadsAll, answer_line}
 
 -- The line bits in which two READALL answers differ: one has 0000h of every device, the other has the named bits set in one device's register. They
@@ -24,9 +25,9 @@ pub record Undetected (q : Question) (values masks : List ℕ) (bits : ℕ) : Ty
   pub turns : weight masks ≡ bits
   pub others : List ℕ
   pub differ : values ≡ others → ⊥
-  pub accepted : (before after : List ℕ) (r : Reading) → q.n ≤ length before
+  pub accepted : (before after : List ℕ) (r : Result Taken Refusal) → q.n ≤ length before
       → ReadDone q (turned (answer_line q values) masks) before after r
-      → (r ≡ Values q.n) × (after ≡ at_front others before)
+      → (r ≡ Ok (Values q.n)) × (after ≡ at_front others before)
 
 pub record WhereItEnds : Type 0 where
   -- three is the most to promise from 15 devices on: bit 0 of device 14's register, and one bit of the PEC

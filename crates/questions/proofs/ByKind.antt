@@ -1,8 +1,51 @@
 -- Laws of going by kind.
-use mathlib.Core.Path.{◌≡◌, refl, ap}
+use mathlib.Core.Path.{◌≡◌, refl, sym, ap, subst, ◌∙◌}
 use Prim.Native.Nat.{ℕ, zero, suc, ◌≤◌}
 use native.Mathlib.Omega.{arith}
-use Rattle.questions.specs.Question.{by_kind, by_form}
+use Rattle.questions.specs.Question.{by_kind, by_name, by_form, kind_at, kind_number}
+use Rattle.questions.specs.declared.question.Kind.{Kind}
+use Rattle.questions.specs.declared.question.Kind.TheVariants.{HelloAll, WriteAll, WriteDevice, ReadAll, ReadDevice}
+
+-- where a question asks what has this name, the entry is the name's
+pub asked : {A : Type 0} (k : ℕ) (h wa wo ra ro : A) {kind named : Kind} → kind ≡ kind_at k → kind ≡ named
+    → by_name named h wa wo ra ro ≡ by_kind k h wa wo ra ro
+asked k h wa wo ra ro e is = ap (λ (k : Kind). by_name k h wa wo ra ro) (sym is ∙ e) ∙ entry k
+  where
+    entry : (k : ℕ) → by_name (kind_at k) h wa wo ra ro ≡ by_kind k h wa wo ra ro
+    entry zero = refl
+    entry (suc zero) = refl
+    entry (suc (suc zero)) = refl
+    entry (suc (suc (suc zero))) = refl
+    entry (suc (suc (suc (suc k)))) = refl
+
+-- and its number is the name's, or where that is READDEVICE 4 or more
+abbrev pub Numbered : Kind → ℕ → Type 0
+Numbered HelloAll k = k ≡ 0
+Numbered WriteAll k = k ≡ 1
+Numbered WriteDevice k = k ≡ 2
+Numbered ReadAll k = k ≡ 3
+Numbered ReadDevice k = 4 ≤ k
+
+pub asked_number : (k : ℕ) {kind named : Kind} → kind ≡ kind_at k → kind ≡ named → Numbered named k
+asked_number k e is = subst (λ (kind : Kind). Numbered kind k) (sym e ∙ is) (number k)
+  where
+    number : (k : ℕ) → Numbered (kind_at k) k
+    number zero = refl
+    number (suc zero) = refl
+    number (suc (suc zero)) = refl
+    number (suc (suc (suc zero))) = refl
+    number (suc (suc (suc (suc k)))) = omega arith
+
+-- the number that has a name is the name's
+pub named_number : {k : ℕ} {kind named : Kind} → kind_number kind ≡ k → kind ≡ named → k ≡ kind_number named
+named_number e is = sym e ∙ ap kind_number is
+
+pub named_most : {k : ℕ} (kind : Kind) → kind_number kind ≡ k → k ≤ 4
+named_most HelloAll e = omega arith
+named_most WriteAll e = omega arith
+named_most WriteDevice e = omega arith
+named_most ReadAll e = omega arith
+named_most ReadDevice e = omega arith
 
 -- of the kinds that are put to one device, the second entry is as the last
 pub one_device : {A : Type 0} (k : ℕ) (h wa wo ra : A) → (k ≡ 0 → ⊥) → (k ≡ 1 → ⊥) → (k ≡ 3 → ⊥) → by_kind k h wa wo ra wo ≡ wo

@@ -4,3 +4,4 @@ pub mod Bytes
 pub mod Wire
 pub mod Worked
 pub mod Agree
+pub mod Within

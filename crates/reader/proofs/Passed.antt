@@ -4,6 +4,7 @@ use mathlib.Core.List.{List}
 use Prim.Native.Nat.{ℕ, ◌≤◌}
 use native.Mathlib.Omega.{arith}
 use lib.ListN.{length}
+use Rattle.std.specs.Prelude.{Ok}
 use Rattle.lines.specs.Line.{bytes_of}
 use Rattle.lines.proofs.Line.{byte_count, length_bytes}
 use Rattle.questions.specs.declared.question.Question.{Question}
@@ -11,12 +12,11 @@ use Rattle.questions.proofs.Good.{words_most, words_least}
 use Rattle.readings.specs.Reading.{values_taken}
 use Rattle.contents.specs.InOrder.{judge_bytes}
 use Rattle.judging.specs.Judge.{judge_of, screen_of}
-use Rattle.readings.specs.declared.Screened.TheVariants.{Passed}
 use Rattle.judging.proofs.Accepted.{values_fit, values_carried}
 use Rattle.judging.proofs.Screening.{passed_good, passed_words, passed_is_judged}
 use Rattle.reader.specs.Read.{values_on, values_in, Carried}
 
-module _ (q : Question) (line : List ℕ) (room : ℕ) (passed : screen_of q line room ≡ Passed) where
+module _ (q : Question) (line : List ℕ) (room : ℕ) (passed : screen_of q line room ≡ Ok tt) where
   pub some_words : 8 ≤ length line
   some_words = omega (arith, passed_words q line room passed, words_least q (passed_good q line room passed))
 

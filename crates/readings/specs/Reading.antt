@@ -1,9 +1,10 @@
 -- What the reader says, and document 01's number, place and byte for each case ("Turned away").
-use Rattle.std.specs.Prelude.{ℕ}
+use Rattle.std.specs.Prelude.{ℕ, Result, Ok, Err}
+use Rattle.numbers.specs.Numbers.{answer_number}
 use Rattle.readings.specs.declared.Refusal.{Refusal}
 use Rattle.readings.specs.declared.Refusal.TheVariants.{Question, Room, Length, Character, Frame, Manchester, Echo, Pec, Alive, Check, Count}
-use Rattle.readings.specs.declared.Reading.{Reading}
-use Rattle.readings.specs.declared.Reading.TheVariants.{Counted, Written, Values, Refused}
+use Rattle.readings.specs.declared.Taken.{Taken}
+use Rattle.readings.specs.declared.Taken.TheVariants.{Counted, Written, Values}
 
 -- the row's number
 abbrev pub refusal_number : Refusal → ℕ
@@ -48,34 +49,31 @@ refusal_byte (Check b) = b
 refusal_byte (Count b) = b
 
 -- 0 for accepted, and where there is no place or no byte
-abbrev pub number_of : Reading → ℕ
-number_of (Counted n) = 0
-number_of Written = 0
-number_of (Values m) = 0
-number_of (Refused why) = refusal_number why
+abbrev pub number_of : Result Taken Refusal → ℕ
+number_of = answer_number refusal_number
 
-abbrev pub place_of : Reading → ℕ
-place_of (Counted n) = 0
-place_of Written = 0
-place_of (Values m) = 0
-place_of (Refused why) = refusal_place why
+abbrev pub place_of : Result Taken Refusal → ℕ
+place_of (Ok (Counted n)) = 0
+place_of (Ok Written) = 0
+place_of (Ok (Values m)) = 0
+place_of (Err why) = refusal_place why
 
-abbrev pub byte_of : Reading → ℕ
-byte_of (Counted n) = 0
-byte_of Written = 0
-byte_of (Values m) = 0
-byte_of (Refused why) = refusal_byte why
+abbrev pub byte_of : Result Taken Refusal → ℕ
+byte_of (Ok (Counted n)) = 0
+byte_of (Ok Written) = 0
+byte_of (Ok (Values m)) = 0
+byte_of (Err why) = refusal_byte why
 
 -- HELLOALL's reading is the count on the line
-abbrev pub count_of : Reading → ℕ
-count_of (Counted n) = n
-count_of Written = 0
-count_of (Values m) = 0
-count_of (Refused why) = 0
+abbrev pub count_of : Result Taken Refusal → ℕ
+count_of (Ok (Counted n)) = n
+count_of (Ok Written) = 0
+count_of (Ok (Values m)) = 0
+count_of (Err why) = 0
 
 -- how many values a reading hands out
-abbrev pub values_taken : Reading → ℕ
-values_taken (Counted n) = 0
-values_taken Written = 0
-values_taken (Values m) = m
-values_taken (Refused why) = 0
+abbrev pub values_taken : Result Taken Refusal → ℕ
+values_taken (Ok (Counted n)) = 0
+values_taken (Ok Written) = 0
+values_taken (Ok (Values m)) = m
+values_taken (Err why) = 0

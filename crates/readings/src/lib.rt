@@ -2,11 +2,14 @@
 #![tactic(auto)]
 
 ghost use Rattle.std.specs.Prelude.{◌≡◌};
-ghost use Rattle.readings.specs.Reading.{refusal_number, refusal_place, refusal_byte, number_of, place_of, byte_of, count_of, values_taken};
+ghost use Rattle.readings.specs.Reading.{refusal_number, refusal_place, refusal_byte, place_of, byte_of, count_of, values_taken};
 ghost use Rattle.readings.specs.Packed.{packed_reading};
 
-// Rows 1 to 11, in their order; a place or a byte where the row has one.
-#[derive(Clone, Copy)]
+use numbers::{TurnedAway, number_of};
+use std::fmt;
+
+// Why a line is turned away: rows 1 to 11, in their order; a place or a byte where the row has one.
+#[derive(Clone, Copy, Debug, PartialEq, Eq)]
 pub enum Refusal {
     Question,
     Room,
@@ -21,115 +24,118 @@ pub enum Refusal {
     Count(u8),
 }
 
-// HELLOALL's count on the line; a write's echo; how many values were handed out; or why the line was turned away.
-#[derive(Clone, Copy)]
-pub enum Reading {
+// What is taken of a line: HELLOALL's count; a write's echo; how many values were handed out.
+#[derive(Clone, Copy, Debug, PartialEq, Eq)]
+pub enum Taken {
     Counted(u8),
     Written,
     Values(usize),
-    Refused(Refusal),
 }
 
-// What a row, or some rows in their order, say of an answer: that it passes, or why it is turned away.
-#[derive(Clone, Copy)]
-pub enum Screened {
-    Passed,
-    Faulty(Refusal),
-}
+impl TurnedAway for Refusal {
+    ghost number = { refusal_number };
 
-// Document 01's number of a row.
-fn refusal_number(why: Refusal) -> u8
-    ensures { result ≡ refusal_number why }
-{
-    match why {
-        Refusal::Question => 1,
-        Refusal::Room => 2,
-        Refusal::Length => 3,
-        Refusal::Character(_) => 4,
-        Refusal::Frame => 5,
-        Refusal::Manchester(_) => 6,
-        Refusal::Echo => 7,
-        Refusal::Pec => 8,
-        Refusal::Alive => 9,
-        Refusal::Check(_) => 10,
-        Refusal::Count(_) => 11,
+    fn number(self) -> u8 {
+        match self {
+            Refusal::Question => 1,
+            Refusal::Room => 2,
+            Refusal::Length => 3,
+            Refusal::Character(_) => 4,
+            Refusal::Frame => 5,
+            Refusal::Manchester(_) => 6,
+            Refusal::Echo => 7,
+            Refusal::Pec => 8,
+            Refusal::Alive => 9,
+            Refusal::Check(_) => 10,
+            Refusal::Count(_) => 11,
+        }
     }
 }
 
-// The place of a row that has one, else 0.
-fn refusal_place(why: Refusal) -> usize
-    ensures { result ≡ refusal_place why }
-{
-    match why {
-        Refusal::Character(i) => i,
-        Refusal::Manchester(i) => i,
-        _ => 0,
+// Document 01's name of the row.
+impl fmt::Display for Refusal {
+    fn fmt<W: fmt::Write>(&self, f: &mut fmt::Formatter<W>) -> fmt::Result {
+        f.write_str(match self {
+            Refusal::Question => "QUESTION",
+            Refusal::Room => "ROOM",
+            Refusal::Length => "LENGTH",
+            Refusal::Character(_) => "CHARACTER",
+            Refusal::Frame => "FRAME",
+            Refusal::Manchester(_) => "MANCHESTER",
+            Refusal::Echo => "ECHO",
+            Refusal::Pec => "PEC",
+            Refusal::Alive => "ALIVE",
+            Refusal::Check(_) => "CHECK",
+            Refusal::Count(_) => "COUNT",
+        })
     }
 }
 
-// The byte of a row that has one, else 0.
-fn refusal_byte(why: Refusal) -> u8
-    ensures { result ≡ refusal_byte why }
-{
-    match why {
-        Refusal::Check(b) => b,
-        Refusal::Count(b) => b,
-        _ => 0,
+impl Refusal {
+    // The place of a row that has one, else 0.
+    fn place(self) -> usize
+        ensures { result ≡ refusal_place self }
+    {
+        match self {
+            Refusal::Character(i) | Refusal::Manchester(i) => i,
+            _ => 0,
+        }
     }
-}
 
-// Document 01's number of a reading: 0 for accepted.
-pub fn number_of(reading: Reading) -> u8
-    ensures { result ≡ number_of reading }
-{
-    match reading {
-        Reading::Refused(why) => refusal_number(why),
-        _ => 0,
+    // The byte of a row that has one, else 0.
+    fn byte(self) -> u8
+        ensures { result ≡ refusal_byte self }
+    {
+        match self {
+            Refusal::Check(b) | Refusal::Count(b) => b,
+            _ => 0,
+        }
     }
 }
 
 // The place of a reading that has one, else 0.
-pub fn place_of(reading: Reading) -> usize
+pub fn place_of(reading: Result<Taken, Refusal>) -> usize
     ensures { result ≡ place_of reading }
 {
     match reading {
-        Reading::Refused(why) => refusal_place(why),
-        _ => 0,
+        Err(why) => why.place(),
+        Ok(_) => 0,
     }
 }
 
 // The byte of a reading that has one, else 0.
-pub fn byte_of(reading: Reading) -> u8
+pub fn byte_of(reading: Result<Taken, Refusal>) -> u8
     ensures { result ≡ byte_of reading }
 {
     match reading {
-        Reading::Refused(why) => refusal_byte(why),
-        _ => 0,
+        Err(why) => why.byte(),
+        Ok(_) => 0,
     }
 }
 
 // HELLOALL's count, else 0.
-pub fn count_of(reading: Reading) -> u8
+pub fn count_of(reading: Result<Taken, Refusal>) -> u8
     ensures { result ≡ count_of reading }
 {
     match reading {
-        Reading::Counted(n) => n,
+        Ok(Taken::Counted(n)) => n,
         _ => 0,
     }
 }
 
 // How many values a reading hands out.
-pub fn values_taken(reading: Reading) -> usize
+pub fn values_taken(reading: Result<Taken, Refusal>) -> usize
     ensures { result ≡ values_taken reading }
 {
     match reading {
-        Reading::Values(m) => m,
+        Ok(Taken::Values(m)) => m,
         _ => 0,
     }
 }
 
-// A reading as one number: bits 0 to 7 the number; bits 8 to 15 the byte, or the count; bits 16 to 31 the place, or how many values were written.
-pub fn packed_reading(reading: Reading) -> u32
+// A reading as one number, for the C interface: bits 0 to 7 the number; bits 8 to 15 the byte, or the count; bits 16 to 31 the place, or how many
+// values were written.
+pub fn packed_reading(reading: Result<Taken, Refusal>) -> u32
     ensures { result ≡ packed_reading reading }
 {
     let byte = byte_of(reading);

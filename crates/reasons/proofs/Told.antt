@@ -1,4 +1,5 @@
 -- Small laws of the definitions, one for each look that the code takes.
+use Rattle.std.specs.Prelude.{Some}
 use Rattle.std.proofs.Common.{◌≡◌, ℕ, zero, suc, ◌+◌, ◌/◌, ◌≤◌, Bool, true, false, eqb, List, get_or, refl, arith, eq-eqb, ne_eqb}
 use Rattle.characters.specs.Character.{preamble, stop}
 use Rattle.questions.specs.Question.{by_form}
@@ -7,7 +8,6 @@ use Rattle.questions.specs.declared.question.Question.{Question}
 use Rattle.readings.specs.declared.Refusal.{Refusal}
 use Rattle.readings.specs.declared.Refusal.TheVariants as row
 use Rattle.reasons.specs.Reason.{at_word, last_place, at_ends, asked_byte, because_of}
-use Rattle.reasons.specs.declared.Right.TheVariants.{One}
 
 -- no answer has more values than the chain has devices, or one
 pub values_le : (q : Question) → (shape_of q).values ≤ q.n + 1
@@ -36,10 +36,10 @@ the_fourth q (suc (suc zero)) a b c = absurd (c refl)
 the_fourth q (suc (suc (suc i))) a b c = refl
 
 -- row 5's end
-pub the_first_word : (line : List ℕ) → (get_or line 0 0 ≡ preamble → ⊥) → at_word line row.Frame 0 (One preamble) ≡ at_ends line
+pub the_first_word : (line : List ℕ) → (get_or line 0 0 ≡ preamble → ⊥) → at_word line row.Frame 0 (Some preamble) ≡ at_ends line
 the_first_word line other = simp (ne_eqb (get_or line 0 0) preamble other)
 
-pub the_last_word : (line : List ℕ) → get_or line 0 0 ≡ preamble → at_word line row.Frame (last_place line) (One stop) ≡ at_ends line
+pub the_last_word : (line : List ℕ) → get_or line 0 0 ≡ preamble → at_word line row.Frame (last_place line) (Some stop) ≡ at_ends line
 the_last_word line is = simp (eq-eqb (get_or line 0 0) preamble is)
 
 -- the refusal that is told is the reader's

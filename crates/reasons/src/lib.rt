@@ -7,19 +7,19 @@ ghost use Rattle.ground.specs.Sweep.{tabulated};
 ghost use Rattle.pec.specs.Pec.{pec_of};
 ghost use Rattle.lines.specs.Line.{byte_at};
 ghost use Rattle.reasons.specs.Reason.{field_in, bad_field, device_right, field_right, at_field, at_line, at_word, at_byte, last_place, at_ends};
-ghost use Rattle.reasons.specs.Reason.{asked_byte, as_asked, echo_place, at_echo, at_pec, at_alive, at_check, because_of, reason_of, reason_number};
+ghost use Rattle.reasons.specs.Reason.{asked_byte, as_asked, echo_place, at_echo, at_pec, at_alive, at_check, because_of, reason_of, because_number};
 
 use characters::{PREAMBLE, STOP};
 use lines::read::byte_at;
+use numbers::TurnedAway;
 use pec::step;
-use questions::question::{HELLOALL, Question, shape_of};
+use questions::question::{Kind, Question, shape_of};
 use reader::read::read;
-use readings::{Reading, Refusal, number_of};
-use slices::word_or_zero;
-use std::num::wrapping_add_u8;
+use readings::Refusal;
+use slices::element_or;
 
 // A field of a question that row 1 looks at, in that row's order.
-#[derive(Clone, Copy)]
+#[derive(Clone, Copy, Debug, PartialEq, Eq)]
 pub enum Field {
     Kind,
     Alive,
@@ -28,7 +28,7 @@ pub enum Field {
 }
 
 // Where a check looks: at a field of what was asked, at the line as a whole, at a word of it, or at a byte, which is the words 1 + 2i and 2 + 2i.
-#[derive(Clone, Copy)]
+#[derive(Clone, Copy, Debug, PartialEq, Eq)]
 pub enum Spot {
     Asked(Field),
     Whole,
@@ -36,51 +36,32 @@ pub enum Spot {
     Byte(usize),
 }
 
-// What would have passed a check there: one thing alone, or several.
-#[derive(Clone, Copy)]
-pub enum Right {
-    One(usize),
-    Several,
-}
-
-#[derive(Clone, Copy)]
+// Why the reader turns an answer away. `right` is the one thing that would have passed there, where it is not one of several.
+#[derive(Clone, Copy, Debug, PartialEq, Eq)]
 pub struct Because {
     pub why: Refusal,
     pub spot: Spot,
     pub stood: usize,
-    pub right: Right,
+    pub right: Option<usize>,
 }
 
-#[derive(Clone, Copy)]
-pub enum Reason {
-    Accepted,
-    TurnedAway(Because),
-}
+impl TurnedAway for Because {
+    ghost number = { because_number };
 
-// Why the reader takes an answer or turns it away. There is room for any answer's values, so ROOM is never the reason.
-pub fn explain(q: Question, line: &[u16]) -> Reason
-    ensures { result ≡ reason_of q line.now }
-{
-    let mut values: [u16; 32] = [0; 32];
-    let reading = read(q, line, &mut values);
-    match reading {
-        Reading::Counted(_) => Reason::Accepted,
-        Reading::Written => Reason::Accepted,
-        Reading::Values(_) => Reason::Accepted,
-        Reading::Refused(why) => Reason::TurnedAway(reason_for(q, line, why)),
+    fn number(self) -> u8 {
+        let why = self.why;
+        why.number()
     }
 }
 
-// Document 01's number of a reason: 0 for accepted.
-pub fn reason_number(reason: Reason) -> u8
-    ensures { result ≡ reason_number reason }
+// Why the reader takes an answer or turns it away. There is room for any answer's values, so ROOM is never the reason.
+pub fn explain(q: Question, line: &[u16]) -> Result<(), Because>
+    ensures { result ≡ reason_of q line.now }
 {
-    match reason {
-        Reason::Accepted => 0,
-        Reason::TurnedAway(b) => {
-            let why = b.why;
-            number_of(Reading::Refused(why))
-        }
+    let mut values: [u16; 32] = [0; 32];
+    match read(q, line, &mut values) {
+        Ok(_) => Ok(()),
+        Err(why) => Err(reason_for(q, line, why)),
     }
 }
 
@@ -90,16 +71,14 @@ fn reason_for(q: Question, line: &[u16], why: Refusal) -> Because
 {
     match why {
         Refusal::Question => at_field(q, bad_field(q)),
-        Refusal::Room => at_line(q, line, why),
-        Refusal::Length => at_line(q, line, why),
-        Refusal::Character(i) => at_word(line, why, i, Right::Several),
+        Refusal::Room | Refusal::Length => at_line(q, line, why),
+        Refusal::Character(i) | Refusal::Manchester(i) => at_word(line, why, i, None),
         Refusal::Frame => at_ends(line),
-        Refusal::Manchester(i) => at_word(line, why, i, Right::Several),
         Refusal::Echo => at_echo(q, line),
         Refusal::Pec => at_pec(q, line),
         Refusal::Alive => at_alive(q, line),
         Refusal::Check(_) => at_check(q, line, why),
-        Refusal::Count(_) => at_byte(line, why, 2, Right::Several),
+        Refusal::Count(_) => at_byte(line, why, 2, None),
     }
 }
 
@@ -107,16 +86,13 @@ fn reason_for(q: Question, line: &[u16], why: Refusal) -> Because
 fn bad_field(q: Question) -> Field
     ensures { result ≡ bad_field q }
 {
-    if 4 < q.kind {
+    if Kind::try_from(q.kind).is_err() {
         return Field::Kind;
     }
     if 1 < q.alive {
         return Field::Alive;
     }
-    if q.n < 1 {
-        return Field::Devices;
-    }
-    if 32 < q.n {
+    if !(1..=32).contains(&q.n) {
         return Field::Devices;
     }
     Field::Device
@@ -134,26 +110,27 @@ fn field_in(q: Question, field: Field) -> usize
 }
 
 // Only a chain of one device leaves a field no choice: its device is 0.
-fn field_right(q: Question, field: Field) -> Right
+fn field_right(q: Question, field: Field) -> Option<usize>
     ensures { result ≡ field_right q field }
 {
     match field {
-        Field::Kind => Right::Several,
-        Field::Alive => Right::Several,
-        Field::Devices => Right::Several,
+        Field::Kind => None,
+        Field::Alive => None,
+        Field::Devices => None,
         Field::Device => one_device(q),
     }
 }
 
-fn one_device(q: Question) -> Right
+fn one_device(q: Question) -> Option<usize>
     ensures { result ≡ device_right q }
 {
     if q.n == 1 {
-        return Right::One(0);
+        return Some(0);
     }
-    Right::Several
+    None
 }
 
+// From here on each function makes the `Because` that the definition of its name in specs/Reason.antt says: the laws of what is told cite them by row.
 fn at_field(q: Question, field: Field) -> Because
     ensures { result ≡ at_field q field }
 {
@@ -173,22 +150,22 @@ fn at_line(q: Question, line: &[u16], why: Refusal) -> Because
         why,
         spot: Spot::Whole,
         stood: line.len(),
-        right: Right::One(s.words),
+        right: Some(s.words),
     }
 }
 
-fn at_word(line: &[u16], why: Refusal, i: usize, right: Right) -> Because
+fn at_word(line: &[u16], why: Refusal, i: usize, right: Option<usize>) -> Because
     ensures { result ≡ at_word line.now why i right }
 {
     Because {
         why,
         spot: Spot::Word(i),
-        stood: word_or_zero(line, i) as usize,
+        stood: element_or(line, i, 0) as usize,
         right,
     }
 }
 
-fn at_byte(line: &[u16], why: Refusal, i: usize, right: Right) -> Because
+fn at_byte(line: &[u16], why: Refusal, i: usize, right: Option<usize>) -> Because
     ensures { result ≡ at_byte line.now why i right }
 {
     Because {
@@ -203,25 +180,17 @@ fn at_byte(line: &[u16], why: Refusal, i: usize, right: Right) -> Because
 fn at_ends(line: &[u16]) -> Because
     ensures { result ≡ at_ends line.now }
 {
-    if word_or_zero(line, 0) != PREAMBLE {
-        return at_word(line, Refusal::Frame, 0, Right::One(PREAMBLE as usize));
+    if element_or(line, 0, 0) != PREAMBLE {
+        return at_word(line, Refusal::Frame, 0, Some(PREAMBLE as usize));
     }
-    at_word(
-        line,
-        Refusal::Frame,
-        last_place(line),
-        Right::One(STOP as usize),
-    )
+    at_word(line, Refusal::Frame, last_place(line), Some(STOP as usize))
 }
 
 // How many words stand behind the first.
 fn last_place(line: &[u16]) -> usize
     ensures { result ≡ last_place line.now }
 {
-    if line.len() == 0 {
-        return 0;
-    }
-    line.len() - 1
+    line.len().saturating_sub(1)
 }
 
 // Row 7: the lowest byte that is not as asked.
@@ -229,7 +198,7 @@ fn at_echo(q: Question, line: &[u16]) -> Because
     ensures { result ≡ at_echo q line.now }
 {
     let i = echo_place(q, line);
-    at_byte(line, Refusal::Echo, i, Right::One(asked_byte(q, i)))
+    at_byte(line, Refusal::Echo, i, Some(asked_byte(q, i)))
 }
 
 // Of a line that row 7 turns away: where the first three are as asked, it is the fourth.
@@ -258,12 +227,12 @@ fn is_as_asked(q: Question, line: &[u16], i: usize) -> bool
 fn asked_byte(q: Question, i: usize) -> usize
     ensures { result ≡ asked_byte q i }
 {
-    let value = q.value;
+    let [low, high] = q.value.to_le_bytes();
     match i {
         0 => first_byte(q),
         1 => second_byte(q),
-        2 => (value % 256) as usize,
-        _ => (value / 256) as usize,
+        2 => low as usize,
+        _ => high as usize,
     }
 }
 
@@ -277,10 +246,10 @@ fn first_byte(q: Question) -> usize
 fn second_byte(q: Question) -> usize
     ensures { result ≡ asked_byte q 1 }
 {
-    if q.kind == HELLOALL {
-        return 0;
+    match q.asks() {
+        Kind::HelloAll => 0,
+        Kind::WriteAll | Kind::WriteDevice | Kind::ReadAll | Kind::ReadDevice => q.reg as usize,
     }
-    q.reg as usize
 }
 
 // Row 8: the PEC of the bytes before it as they stand.
@@ -293,7 +262,7 @@ fn at_pec(q: Question, line: &[u16]) -> Because
         line,
         Refusal::Pec,
         covered,
-        Right::One(pec_before(line, covered) as usize),
+        Some(pec_before(line, covered) as usize),
     )
 }
 
@@ -302,10 +271,8 @@ fn pec_before(line: &[u16], end: usize) -> u8
     ensures { result ≡ pec_of (tabulated (byte_at line.now) end 0) }
 {
     let mut crc: u8 = 0;
-    let mut i: usize = 0;
-    while i < end {
+    for i in 0..end {
         crc = step(crc, byte_at(line, i));
-        i += 1;
     }
     crc
 }
@@ -315,13 +282,8 @@ fn at_alive(q: Question, line: &[u16]) -> Because
     ensures { result ≡ at_alive q line.now }
 {
     let s = shape_of(q);
-    let due = wrapping_add_u8(q.seed, s.acting);
-    at_byte(
-        line,
-        Refusal::Alive,
-        s.covered + 1,
-        Right::One(due as usize),
-    )
+    let due = q.seed.wrapping_add(s.acting);
+    at_byte(line, Refusal::Alive, s.covered + 1, Some(due as usize))
 }
 
 // Row 10: behind the values.
@@ -329,5 +291,5 @@ fn at_check(q: Question, line: &[u16], why: Refusal) -> Because
     ensures { result ≡ at_check q line.now why }
 {
     let s = shape_of(q);
-    at_byte(line, why, 2 + 2 * s.values, Right::One(0))
+    at_byte(line, why, 2 + 2 * s.values, Some(0))
 }

@@ -3,29 +3,31 @@
 
 ghost use Rattle.std.specs.Prelude.{◌≡◌, ◌%◌, length};
 ghost use Rattle.ground.specs.Sweep.{tabulated};
-ghost use Rattle.registers.specs.Memory.{is_chain, power_on_figure, fresh, PoweredOn};
+ghost use Rattle.registers.specs.Memory.{chain_of, no_chain_number, power_on_figure, fresh, PoweredOn};
 
-// The memory was filled, or row 15, TWIN.
-#[derive(Clone, Copy)]
-pub enum Powered {
-    On,
-    Twin,
+use numbers::TurnedAway;
+
+// No chain of 1 to 32 devices, or no memory of its size: row 15, TWIN.
+#[derive(Clone, Copy, Debug, PartialEq, Eq)]
+pub struct NoChain;
+
+impl TurnedAway for NoChain {
+    ghost number = { no_chain_number };
+
+    fn number(self) -> u8 {
+        15
+    }
 }
 
-// 1 to 32 devices, and exactly 256 words for each.
-pub fn is_chain(n: u8, words: usize) -> bool
-    ensures { result ≡ is_chain n words }
+// 1 to 32 devices, and memory of exactly the size that they take, with so many words or bytes for each.
+pub fn is_chain<const DEVICE: u16>(n: u8, size: usize) -> bool
+    ensures { result ≡ chain_of DEVICE n size }
 {
-    if n < 1 {
-        return false;
-    }
-    if 32 < n {
-        return false;
-    }
-    words == 256 * n as usize
+    (1..=32).contains(&n) && size == DEVICE as usize * n as usize
 }
 
 // What a register holds after power-on.
+#[tactic(auto, unfolding(crate::specs::Memory::power_on_figure))]
 fn figure_of(r: u8) -> u16
     ensures { result ≡ power_on_figure r }
 {
@@ -46,20 +48,18 @@ fn figure_of(r: u8) -> u16
 fn fill(memory: &mut [u16])
     ensures { memory.new ≡ tabulated fresh (length memory.old) 0 }
 {
-    let mut i = 0;
-    while i < memory.len() {
-        memory[i] = figure_of((i % 256) as u8);
-        i += 1;
+    for (i, word) in memory.iter_mut().enumerate() {
+        *word = figure_of((i % 256) as u8);
     }
 }
 
 // Power-on: the whole memory is filled, or, turned away, left as it was.
-pub fn power_on(n: u8, memory: &mut [u16]) -> Powered
+pub fn power_on(n: u8, memory: &mut [u16]) -> Result<(), NoChain>
     ensures { PoweredOn n memory.old memory.new result }
 {
-    if !is_chain(n, memory.len()) {
-        return Powered::Twin;
+    if !is_chain::<256>(n, memory.len()) {
+        return Err(NoChain);
     }
     fill(memory);
-    Powered::On
+    Ok(())
 }

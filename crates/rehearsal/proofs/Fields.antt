@@ -2,7 +2,8 @@
 use mathlib.Core.Path.{◌≡◌, sym, ap, ap₂, ◌∙◌}
 use mathlib.Core.Bool.{Bool, cond}
 use mathlib.Core.List.{List, [], ◌∷◌, ◌++◌}
-use Prim.Native.Nat.{ℕ, ◌+◌, ◌<◌, ◌≤◌}
+use Prim.Native.Nat.{ℕ, ◌+◌, ◌%◌, ◌<◌, ◌≤◌}
+use Rattle.std.specs.Int.{w16, to_le_bytes}
 use native.Mathlib.Omega.{arith}
 use lib.ListN.{length}
 use lib.Seq.{sets}
@@ -33,3 +34,7 @@ fields_laid version mask words to behind q out out₁ out₂ out₃ head put tai
     let last = q.device ∷ q.seed ∷ low_high words in
     tail ∙ ap₂ (λ (l : List ℕ) (k : ℕ). sets l k last) (put.leaves ∙ ap (λ (l : List ℕ). sets l (to + 4) held) head) put.behind
     ∙ sym (sets_append (sets out to first) (to + 4) held last) ∙ sym (sets_append out to first (held ++ last))
+
+-- a word's two bytes
+pub le_bytes : (w : ℕ) (bytes : List ℕ) → w < 65536 → bytes ≡ to_le_bytes w16 w → bytes ≡ low_high w
+le_bytes w bytes small is = is ∙ ap (λ (high : ℕ). w % 256 ∷ high ∷ []) (omega arith)

@@ -1,4 +1,5 @@
 -- The whole answered file: a chain that is switched on, the header, and behind it the entries with their answers.
+use Rattle.std.specs.Prelude.{Result, ⊤}
 use mathlib.Core.Path.{◌≡◌, sym, ap, ap₂, ◌∙◌}
 use mathlib.Core.Bool.{Bool, true, ◌&&◌}
 use mathlib.Core.List.{List, ◌++◌}
@@ -11,7 +12,7 @@ use borrow.Author.Tests.{le-leb, eq-eqb}
 use Rattle.ground.proofs.Lists.{sets_append}
 use Rattle.jobs.specs.declared.Header.{Header}
 use Rattle.registers.specs.Memory.{is_chain, power_on_memory, PoweredOn}
-use Rattle.registers.specs.declared.Powered.{Powered}
+use Rattle.registers.specs.declared.NoChain.{NoChain}
 use Rattle.registers.proofs.Power.{switched_on}
 use Rattle.jobs.specs.Format.{Entry, head_size, header_bytes, entries_bytes, file_bytes}
 use Rattle.jobs.specs.Rules.{good_header}
@@ -21,7 +22,7 @@ use Rattle.jobs.proofs.Entries.{parts, header_least, header_most}
 use Rattle.rehearsal.specs.Rehearsal.{rehearsed, rehearsal_of}
 use Rattle.rehearsal.specs.Answering.{Ready}
 
-module _ (h : Header) (file memory memory' out out₁ out₂ : List ℕ) (powered : Powered) (ok : good_file file ≡ true) (is : h ≡ header_in file)
+module _ (h : Header) (file memory memory' out out₁ out₂ : List ℕ) (powered : Result ⊤ NoChain) (ok : good_file file ≡ true) (is : h ≡ header_in file)
     (short : length (rehearsal_of file) ≤ 65536) (size : length memory ≡ 256 * h.n) (on : PoweredOn h.n memory memory' powered) where
   pub a_chain : is_chain h.n (length memory) ≡ true
   a_chain =

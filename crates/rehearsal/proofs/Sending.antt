@@ -1,4 +1,5 @@
 -- One question sent: what comes back has as many words as the command, and a bad question is not sent.
+use Rattle.std.specs.Prelude.{Result, Ok, ⊤}
 use mathlib.Core.Path.{◌≡◌, refl, sym, ap, subst, ◌∙◌}
 use mathlib.Core.Bool.{Bool, true, false, cond}
 use mathlib.Core.List.{List, []}
@@ -12,13 +13,12 @@ use Rattle.questions.specs.Question.{good_question}
 use Rattle.questions.specs.Shape.{shape_of}
 use Rattle.questions.specs.declared.question.Question.{Question}
 use Rattle.commands.specs.Command.{command_line, issued_of, CommandPut}
-use Rattle.commands.specs.declared.Issued.{Issued}
-use Rattle.commands.specs.declared.Issued.TheVariants as issued
+use Rattle.commands.specs.declared.CommandRefusal.{CommandRefusal}
 use Rattle.commands.proofs.Issuing.{issued_good, issued_words, command_written}
 use Rattle.acceptance.proofs.Lengths.{command_words}
 use Rattle.registers.specs.Memory.{is_chain}
 use Rattle.twin.specs.Step.{Chain, chain_with, hops, ChainDone}
-use Rattle.twin.specs.declared.step.Stepped.{Stepped}
+use Rattle.twin.specs.declared.step.StepRefusal.{StepRefusal}
 use Rattle.twin.proofs.Stepping.{leaves_line, leaves_memory, hops_length}
 use Rattle.rehearsal.specs.Rehearsal.{answer_words, sent}
 use Rattle.rehearsal.specs.Answering.{SentDone}
@@ -60,7 +60,7 @@ module _ (q : Question) where
 -- ---- the call
 
 module _ (n : ℕ) (q : Question) (memory : List ℕ) (blank : List ℕ) (size : length blank ≡ 140) where
-  pub not_sent : (r : Issued) (line : List ℕ) → r ≡ issued_of q (length blank) → ((words : ℕ) → r ≡ issued.Words words → ⊥) → SentDone n q memory memory line 0
+  pub not_sent : (r : Result ℕ CommandRefusal) (line : List ℕ) → r ≡ issued_of q (length blank) → ((words : ℕ) → r ≡ Ok words → ⊥) → SentDone n q memory memory line 0
   not_sent r line says other =
       let bad : good_question q ≡ false = refuted (good_question q) (λ good.
       other _ (says ∙ issued_good q (length blank) good (omega (arith, command_words q good, words_most q good)))) in
@@ -71,11 +71,11 @@ module _ (n : ℕ) (q : Question) (memory : List ℕ) (blank : List ℕ) (size :
       }
 
   -- as many words as the command has
-  pub within : (words : ℕ) → issued_of q (length blank) ≡ issued.Words words → words ≤ 140
+  pub within : (words : ℕ) → issued_of q (length blank) ≡ Ok words → words ≤ 140
   within words says = let issues = issued_words q (length blank) words says in omega (arith, issues.number, issues.fits)
 
-  pub was_sent : (r : Issued) (words : ℕ) (command line line' memory' : List ℕ) (stepped : Stepped) → CommandPut q blank command r
-      → r ≡ issued.Words words → is_chain n (length memory) ≡ true → length line ≡ 140
+  pub was_sent : (r : Result ℕ CommandRefusal) (words : ℕ) (command line line' memory' : List ℕ) (stepped : Result ⊤ StepRefusal) → CommandPut q blank command r
+      → r ≡ Ok words → is_chain n (length memory) ≡ true → length line ≡ 140
       → ChainDone n memory memory' (take words command) line line' stepped → SentDone n q memory memory' line' words
   was_sent r words command line line' memory' stepped put is chain room done =
       let issues = issued_words q (length blank) words (sym put.says ∙ is) in

@@ -1,6 +1,6 @@
 -- A job rehearsed on the twin: each good question's command goes through all devices of the chain, from power-on on, and the file is given
 -- with the answers that came back, in its own version and with its masks (document 02, M-100). A bad question is not sent, and has no words.
-use Rattle.std.specs.Prelude.{◌≡◌, cond, List, [], ◌∷◌, ℕ, ◌+◌, ◌*◌, leb, length, drop}
+use Rattle.std.specs.Prelude.{◌≡◌, cond, List, [], ◌∷◌, ℕ, ◌+◌, ◌*◌, leb, length, drop, Result, Ok, Err}
 use Rattle.lines.specs.Write.{at_front, left_by}
 use Rattle.questions.specs.Question.{good_question}
 use Rattle.questions.specs.Shape.{shape_of}
@@ -11,8 +11,10 @@ use Rattle.twin.specs.Step.{Chain, chain_with, hops}
 use Rattle.jobs.specs.declared.Header.{Header}
 use Rattle.jobs.specs.Format.{Entry, head_size, field_size, asked, file_bytes}
 use Rattle.jobs.specs.Check.{good_file, header_in, entries_in}
-use Rattle.rehearsal.specs.declared.Rehearsed.{Rehearsed}
-use Rattle.rehearsal.specs.declared.Rehearsed.TheVariants.{Bytes, File, Room}
+use Rattle.numbers.specs.Numbers.{answer_number}
+use Rattle.jobs.specs.declared.FileRefusal.{FileRefusal}
+use Rattle.jobs.specs.declared.FileRefusal.TheVariants.{File, Room}
+use Rattle.jobs.specs.Refusals.{file_number}
 
 -- the chain after a question, and the line that comes back
 unfoldable pub sent : (n : ℕ) → (memory : List ℕ) → Question → Chain
@@ -41,22 +43,20 @@ rehearsal_of file =
     file_bytes (header_in file) (rehearsed (header_in file) (power_on_memory (header_in file).n) (entries_in (header_in file).version (drop head_size file)))
 
 -- the answer: FILE, also where the answered file would be too long; then ROOM
-unfoldable pub rehearsed_of : (file out : List ℕ) → Rehearsed
+unfoldable pub rehearsed_of : (file out : List ℕ) → Result ℕ FileRefusal
 rehearsed_of file out =
     cond (good_file file)
     (cond (leb (length (rehearsal_of file)) 65536)
-    (cond (leb (length (rehearsal_of file)) (length out)) (Bytes (length (rehearsal_of file))) Room)
-    File)
-    File
+    (cond (leb (length (rehearsal_of file)) (length out)) (Ok (length (rehearsal_of file))) (Err Room))
+    (Err File))
+    (Err File)
 
 -- document 01's number of an answer
-abbrev pub rehearsed_number : Rehearsed → ℕ
-rehearsed_number (Bytes n) = 0
-rehearsed_number File = 14
-rehearsed_number Room = 2
+abbrev pub rehearsed_number : Result ℕ FileRefusal → ℕ
+rehearsed_number = answer_number file_number
 
 -- what `rehearse` says and leaves
-pub record RehearsalDone (file before after : List ℕ) (r : Rehearsed) : Type 0 where
+pub record RehearsalDone (file before after : List ℕ) (r : Result ℕ FileRefusal) : Type 0 where
   pub says : r ≡ rehearsed_of file before
   pub leaves : after ≡ left_by (rehearsed_number (rehearsed_of file before)) (at_front (rehearsal_of file) before) before
 

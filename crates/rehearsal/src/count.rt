@@ -1,40 +1,39 @@
 // How long the answered file will be, told before anything is written: each entry with the words that come back, none for a bad question.
 ghost use Rattle.std.specs.Prelude.{◌≡◌, true, ◌*◌, ◌≤◌, ◌<◌, length, drop};
-ghost use Rattle.jobs.specs.Check.{good_entries, good_file, header_in};
+ghost use Rattle.jobs.specs.Check.{good_entries};
 ghost use Rattle.rehearsal.specs.Rehearsal.{answer_words, rehearsal_of};
 ghost use Rattle.rehearsal.specs.Answering.{entry_with};
 
 use crate::Places;
-use jobs::{Cursor, Header, Next, field_size, first, next_entry};
+use crate::here::entry_at;
+use jobs::{field_size, first};
+use opening::job::Job;
 use questions::question::{Question, is_good, shape_of};
 
-pub(crate) fn answered_length(header: Header, file: &[u8]) -> usize
-    requires { (good_file file.now ≡ true) × (header ≡ header_in file.now) }
-    ensures { result ≡ length (rehearsal_of file.now) }
+// From entry to entry, as far as each says where the next one stands.
+pub(crate) fn answered_length(job: Job<'_>) -> usize
+    ensures { result ≡ length (rehearsal_of job.entry.file.now) }
 {
     let start = first();
     let mut places = Places {
         at: start.at,
         to: start.at,
     };
-    while places.at < file.len() {
-        places = count_entry(header, file, places);
+    while places.at < job.file.len() {
+        places = count_entry(job, places);
     }
     places.to
 }
 
 // One entry more, counted.
-fn count_entry(header: Header, file: &[u8], places: Places) -> Places
-    requires { (places.at < length file.now) × (good_entries header (drop places.at file.now) ≡ true) × (places.to ≤ 40 * places.at) × (length file.now ≤ 65536) }
-    ensures { result ≡ entry_with header file.now places }
+fn count_entry(job: Job<'_>, places: Places) -> Places
+    requires { (places.at < length job.file.now) × (good_entries job.header (drop places.at job.file.now) ≡ true) × (places.to ≤ 40 * places.at) × (length job.file.now ≤ 65536) }
+    ensures { result ≡ entry_with job.entry.header job.entry.file.now places }
 {
-    let next = next_entry(header, file, Cursor { at: places.at });
-    let Next::Entry(entry, after) = next else {
-        return places;
-    };
+    let (entry, after) = entry_at(job, places.at);
     Places {
         at: after.at,
-        to: places.to + field_size(header.version) + 2 * answer_words(entry.question),
+        to: places.to + field_size(job.header.version) + 2 * answer_words(entry.question),
     }
 }
 

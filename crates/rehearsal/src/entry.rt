@@ -7,27 +7,26 @@ ghost use Rattle.jobs.specs.Check.{good_entries};
 ghost use Rattle.rehearsal.specs.Answering.{SentDone, fields_for, MaskPut, AnsweredOne};
 
 use crate::Places;
-use commands::{Issued, write_command};
-use jobs::{Cursor, Header, Next, field_size, next_entry};
+use crate::here::entry_at;
+use commands::write_command;
+use jobs::field_size;
+use opening::job::Job;
 use packing::{pack, store};
 use questions::question::Question;
 use twin::step::run_chain;
 
 // One entry more, with its answer.
 pub(crate) fn answer_entry(
-    header: Header,
-    file: &[u8],
+    job: Job<'_>,
     memory: &mut [u16],
     out: &mut [u8],
     places: Places,
 ) -> Places
-    requires { (places.at < length file.now) × (good_entries header (drop places.at file.now) ≡ true) × (is_chain header.n (length memory.old) ≡ true) × (places.to + 296 ≤ 100000) }
-    ensures { AnsweredOne header file.now places memory.old memory.new out.old out.new result }
+    requires { (places.at < length job.file.now) × (good_entries job.header (drop places.at job.file.now) ≡ true) × (is_chain job.header.n (length memory.old) ≡ true) × (places.to + 296 ≤ 100000) }
+    ensures { AnsweredOne job.entry.header job.entry.file.now places memory.old memory.new out.old out.new result }
 {
-    let next = next_entry(header, file, Cursor { at: places.at });
-    let Next::Entry(entry, after) = next else {
-        return places;
-    };
+    let header = job.header;
+    let (entry, after) = entry_at(job, places.at);
     let to = places.to;
     let q = entry.question;
     let mut line: [u16; 140] = [0; 140];
@@ -47,11 +46,11 @@ fn send(n: u8, q: Question, memory: &mut [u16], line: &mut [u16]) -> usize
     ensures { SentDone n q memory.old memory.new line.new result }
 {
     let mut command: [u16; 140] = [0; 140];
-    let issued = write_command(q, &mut command);
-    let Issued::Words(words) = issued else {
+    let Ok(words) = write_command(q, &mut command) else {
         return 0;
     };
-    run_chain(n, memory, &command[..words], line);
+    // It is a chain, and the line has room for any command: no device is left out.
+    let _ = run_chain(n, memory, &command[..words], line);
     words
 }
 
@@ -59,12 +58,10 @@ fn put_fields(out: &mut [u8], to: usize, version: u16, q: Question, mask: u16, w
     requires { (to ≤ 100000) × (words ≤ 140) }
     ensures { out.new ≡ sets out.old to (fields_for version q mask words) }
 {
-    let low = (q.value % 256) as u8;
-    let high = (q.value / 256) as u8;
+    let [low, high] = q.value.to_le_bytes();
     store(out, to, &[q.kind, q.reg, low, high]);
     let behind = put_mask(out, to + 4, version, mask);
-    let few = (words % 256) as u8;
-    let many = (words / 256) as u8;
+    let [few, many] = (words as u16).to_le_bytes();
     store(out, behind, &[q.device, q.seed, few, many]);
 }
 
@@ -76,9 +73,7 @@ fn put_mask(out: &mut [u8], to: usize, version: u16, mask: u16) -> usize
     if version < 2 {
         return to;
     }
-    let low = (mask % 256) as u8;
-    let high = (mask / 256) as u8;
-    store(out, to, &[low, high]);
+    store(out, to, &mask.to_le_bytes());
     to + 2
 }
 
@@ -87,14 +82,8 @@ fn put_words(out: &mut [u8], to: usize, words: &[u16])
     requires { length words.now ≤ 140 }
     ensures { out.new ≡ sets out.old to (as_bytes words.now) }
 {
-    let mut bytes = blank_bytes();
+    let mut bytes = [0; 280];
     pack(words, &mut bytes);
     let end = 2 * words.len();
     store(out, to, &bytes[..end]);
-}
-
-fn blank_bytes() -> [u8; 280]
-    ensures { length result ≡ 280 }
-{
-    [0; 280]
 }

@@ -5,22 +5,15 @@
 mod answer;
 mod count;
 mod entry;
+mod here;
 
 ghost use Rattle.std.specs.Prelude.{◌≡◌};
 ghost use Rattle.rehearsal.specs.Rehearsal.{RehearsalDone};
 
 use answer::answer_all;
 use count::answered_length;
-use jobs::Opened;
-use opening::open;
-
-// How many bytes the answered file has; or which row turned the call away.
-#[derive(Clone, Copy)]
-pub enum Rehearsed {
-    Bytes(usize),
-    File,
-    Room,
-}
+use jobs::FileRefusal;
+use opening::job::Job;
 
 // Where the next entry stands in the file, and where it goes.
 #[derive(Clone, Copy)]
@@ -30,21 +23,18 @@ pub struct Places {
 }
 
 // The answered file at the front of the lent memory, the rest as it was. FILE where it is no job file, or where it would be longer with its
-// answers than a job file may be; then ROOM. Turned away, nothing is written.
-pub fn rehearse(file: &[u8], out: &mut [u8]) -> Rehearsed
+// answers than a job file may be; then ROOM. Turned away, nothing is written; else it is said how many bytes the answered file has.
+pub fn rehearse(file: &[u8], out: &mut [u8]) -> Result<usize, FileRefusal>
     ensures { RehearsalDone file.now out.old out.new result }
 {
-    let opened = open(file);
-    let Opened::Job(header) = opened else {
-        return Rehearsed::File;
-    };
-    let bytes = answered_length(header, file);
+    let job = Job::try_from(file)?;
+    let bytes = answered_length(job);
     if 65536 < bytes {
-        return Rehearsed::File;
+        return Err(FileRefusal::File);
     }
     if out.len() < bytes {
-        return Rehearsed::Room;
+        return Err(FileRefusal::Room);
     }
-    answer_all(header, file, out);
-    Rehearsed::Bytes(bytes)
+    answer_all(job, out);
+    Ok(bytes)
 }

@@ -3,26 +3,15 @@
 // with its answers, is turned away with `R 14`, which the certificate program turns away in its turn.
 #![tactic(auto)]
 
-use intake::{job_memory, put_out, take_in};
-use rehearsal::{Rehearsed, rehearse};
-
-fn say(rt: &HostRuntime, bytes: &[u8]) {
-    let complaint = b"rehearse: the file could not be written\n";
-    put_out(&mut rt.stdout(), &mut rt.stderr(), bytes, complaint);
-}
-
-fn answer(rt: &HostRuntime, file: &[u8]) {
-    let mut out = job_memory();
-    let rehearsed = rehearse(file, &mut out);
-    let Rehearsed::Bytes(n) = rehearsed else {
-        say(rt, b"R 14\n");
-        return;
-    };
-    say(rt, &out[..n]);
-}
+use intake::{answer_in, job_memory, put_out, take_in};
+use rehearsal::rehearse;
 
 fn main(rt: HostRuntime) {
     let mut file = job_memory();
     let n = take_in(&mut rt.stdin(), &mut file);
-    answer(&rt, &file[..n]);
+    let mut out = job_memory();
+    let written = rehearse(&file[..n], &mut out).ok();
+    let complaint = b"rehearse: the file could not be written\n";
+    let answer = answer_in(&out, written);
+    put_out(&mut rt.stdout(), &mut rt.stderr(), answer, complaint);
 }

@@ -1,4 +1,5 @@
 -- HELLOALL: each device acts on it and adds one to the last byte, and no register changes.
+use Rattle.std.specs.Prelude.{None}
 use mathlib.Core.Path.{◌≡◌, refl, sym, ap, ◌∙◌, subst}
 use mathlib.Core.Bool.{cond}
 use mathlib.Core.List.{List, [], ◌∷◌, ◌++◌}
@@ -17,7 +18,6 @@ use Rattle.hearing.specs.Hear.{kind_heard, carried, plainly, heard}
 use Rattle.underway.specs.OnTheWay.{on_the_way, wire_of}
 use Rattle.passage.specs.Acting.{met, handed}
 use Rattle.passage.specs.Pass.{store_of, change_asked}
-use Rattle.passage.specs.declared.pass.Change.TheVariants.{Nothing}
 use Rattle.hearing.proofs.Hearing.{heard_either}
 use Rattle.underway.proofs.Way.{way_hello}
 use Rattle.roundtrip.specs.Between.{For}
@@ -42,8 +42,8 @@ hello_bytes k h = bytes_cons 0x57 (0 ∷ k ∷ []) (lit< tt) (bytes_cons 0 (k �
 pub hello_way : (q : Question) (count added : ℕ) (wire : List ℕ) → q.kind ≡ 0 → on_the_way q count added wire ≡ 0x57 ∷ 0 ∷ count ∷ []
 hello_way q count added wire e = way_hello q count added wire e ∙ ap (λ s. s.first ∷ 0 ∷ count ∷ []) (hello_shape q e)
 
-pub no_change : (q : Question) → q.kind ≡ 0 → change_asked q ≡ Nothing
-no_change q e = ap (λ (k : ℕ). cond (eqb k 1) (store_of q) (cond (eqb k 2) (store_of q) Nothing)) e
+pub no_change : (q : Question) → q.kind ≡ 0 → change_asked q ≡ None
+no_change q e = ap (λ (k : ℕ). cond (eqb k 1) (store_of q) (cond (eqb k 2) (store_of q) None)) e
 
 module _ (q : Question) (n k : ℕ) (f : For q n k) (hello : q.kind ≡ 0) (registers : List ℕ) where
   abbrev pub hello_line : List ℕ

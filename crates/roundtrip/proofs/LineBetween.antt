@@ -1,5 +1,6 @@
 -- One device further: device m takes the command as the m devices before it leave it, and hands it on as m + 1 devices leave it, whatever its
 -- registers hold; and it changes them as the command asks of it. The whole way is in RoundTrip.
+use Rattle.std.specs.Prelude.{None}
 use mathlib.Core.Path.{◌≡◌, refl, sym, ap, ◌∙◌}
 use mathlib.Core.Bool.{Bool, true, cond}
 use mathlib.Core.Logic.{inl, inr, ⊎_elim}
@@ -16,7 +17,6 @@ use Rattle.questions.proofs.ByKind.{each_kind}
 use Rattle.questions.proofs.Good.{good_kind}
 use Rattle.acceptance.specs.Answer.{Registers, Sendable}
 use Rattle.passage.specs.Pass.{change_asked}
-use Rattle.passage.specs.declared.pass.Change.TheVariants.{Nothing}
 use Rattle.twin.specs.Step.{registers_of}
 use Rattle.roundtrip.specs.Between.{held, acted, put_in}
 use Rattle.roundtrip.proofs.HelloActing.{no_change, hello_on}
@@ -33,7 +33,7 @@ module _ (q : Question) (sends : Sendable q) (n : ℕ) (memory : List ℕ) (word
       (on_wire (put_in q m memory)) (on_wire (put_in q (suc m) memory)) in
       record {
         hands = done.hands;
-        changes = done.changes ∙ no_change q e ∙ sym (ap (λ (t : Bool). cond t (change_asked q) Nothing) (covers_at_lem q m 0 e));
+        changes = done.changes ∙ no_change q e ∙ sym (ap (λ (t : Bool). cond t (change_asked q) None) (covers_at_lem q m 0 e));
       }
 
   next_write_all : q.kind ≡ 1 → Next q sends n memory words m

@@ -1,4 +1,5 @@
 -- One device further: what the next line between takes, of a device that acts on the line and of one that lets it pass.
+use Rattle.std.specs.Prelude.{Option, None}
 use mathlib.Core.Path.{◌≡◌, sym, ap, ap₂, ◌∙◌}
 use mathlib.Core.Bool.{Bool, true, false, cond}
 use mathlib.Core.Logic.{⊎_elim}
@@ -21,8 +22,7 @@ use Rattle.passage.specs.Acting.{acts, handed_on}
 use Rattle.passage.proofs.Passing.{left_unchanged, nothing_stored}
 use Rattle.underway.proofs.Way.{way_write, way_read}
 use Rattle.passage.specs.Pass.{change_asked, change_of}
-use Rattle.passage.specs.declared.pass.Change.{Change}
-use Rattle.passage.specs.declared.pass.Change.TheVariants.{Nothing}
+use Rattle.passage.specs.declared.pass.Store.{Store}
 use Rattle.twin.specs.Step.{registers_of}
 use Rattle.roundtrip.specs.Between.{held, acted, put_in, line_between, For}
 use Rattle.roundtrip.proofs.WhereItActs.{write_alone}
@@ -37,8 +37,8 @@ uncounted q count count' added wire some =
 
 module _ (q : Question) (sends : Sendable q) (n : ℕ) (memory : List ℕ) (words : Registers memory) where
   -- what becomes of the registers of device m
-  abbrev pub change_for : ℕ → Change
-  change_for m = cond (covers q m) (change_asked q) Nothing
+  abbrev pub change_for : ℕ → Option Store
+  change_for m = cond (covers q m) (change_asked q) None
 
   -- device m hands on the next line between, and does to its registers what the command asks of it
   pub record Next (m : ℕ) : Type 0 where
@@ -62,7 +62,7 @@ module _ (q : Question) (sends : Sendable q) (n : ℕ) (memory : List ℕ) (word
               (λ (low : q.kind < 3). ap (λ (x : ℕ). on_the_way q (suc m) x (low_high own ++ wire)) (sym more) ∙ write_alone q (suc m) (acted q (suc m)) (low_high own ++ wire) (on_wire (put_in q (suc m) memory)) some (omega arith))
               (λ (reads : 3 ≤ q.kind). ap₂ (λ (x : ℕ) (w : List ℕ). on_the_way q (suc m) x w) (sym more) (sym (ap on_wire (put reads) ∙ wire_next (put_in q m memory) own)))
               (below_or_not q.kind 3));
-          changes = done.changes ∙ sym (ap (λ (t : Bool). cond t (change_asked q) Nothing) covered);
+          changes = done.changes ∙ sym (ap (λ (t : Bool). cond t (change_asked q) None) covered);
         }
 
     -- a device that it is not put to
@@ -71,5 +71,5 @@ module _ (q : Question) (sends : Sendable q) (n : ℕ) (memory : List ℕ) (word
       hands =
           left_unchanged n m (registers_of memory m) (line_between q m memory) passes
           ∙ ap line_of (uncounted q m (suc m) (acted q m) (on_wire (put_in q m memory)) some ∙ ap₂ (λ (x : ℕ) (l : List ℕ). on_the_way q (suc m) x (on_wire l)) (sym same-added) (sym same_put));
-      changes = nothing_stored n m (registers_of memory m) (line_between q m memory) passes ∙ sym (ap (λ (t : Bool). cond t (change_asked q) Nothing) uncovered);
+      changes = nothing_stored n m (registers_of memory m) (line_between q m memory) passes ∙ sym (ap (λ (t : Bool). cond t (change_asked q) None) uncovered);
     }

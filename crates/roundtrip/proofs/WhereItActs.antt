@@ -1,4 +1,5 @@
 -- What a step gives where device k acts, and what shows that it acts: it is a place of the chain, and the line is as it would be met.
+use Rattle.std.specs.Prelude.{Option, Some, None}
 use mathlib.Core.Path.{◌≡◌, sym, ap, ap₂, ◌∙◌}
 use mathlib.Core.Bool.{Bool, true, false, cond, ◌&&◌}
 use mathlib.Core.Logic.{⊎_elim}
@@ -15,9 +16,8 @@ use Rattle.questions.specs.declared.question.Question.{Question}
 use Rattle.hearing.specs.Hear.{is_place, heard}
 use Rattle.underway.specs.OnTheWay.{on_the_way}
 use Rattle.passage.specs.Acting.{met, acts, handed, handed_on}
-use Rattle.passage.specs.Pass.{store_of, change_asked, change_of}
-use Rattle.passage.specs.declared.pass.Change.{Change}
-use Rattle.passage.specs.declared.pass.Change.TheVariants.{Nothing, Store}
+use Rattle.passage.specs.Pass.{storing, store_of, change_asked, change_of}
+use Rattle.passage.specs.declared.pass.Store.{Store}
 use Rattle.underway.proofs.Way.{way_write}
 use Rattle.roundtrip.specs.Between.{For}
 use Rattle.roundtrip.proofs.Alike.{Alike}
@@ -34,12 +34,12 @@ place_of q n k f =
 -- what a question asks of the registers, told by kind, register and value
 pub change_alike : (q q' : Question) (added : ℕ) → Alike q q' added → change_asked q' ≡ change_asked q
 change_alike q q' added a =
-    ap (λ (k : ℕ). cond (eqb k 1) (store_of q') (cond (eqb k 2) (store_of q') Nothing)) a.kind ∙ ⊎_elim
+    ap (λ (k : ℕ). cond (eqb k 1) (store_of q') (cond (eqb k 2) (store_of q') None)) a.kind ∙ ⊎_elim
     (λ (low : q.kind < 3).
-    let stored : store_of q' ≡ store_of q = ap₂ (λ (r v : ℕ). cond (eqb r 0x00) Nothing (Store r v)) a.reg (a.value (omega arith)) in
-    ap (λ (c : Change). cond (eqb q.kind 1) c (cond (eqb q.kind 2) c Nothing)) stored)
-    (λ (reads : 3 ≤ q.kind). ap₂ (λ (t u : Bool). cond t (store_of q') (cond u (store_of q') Nothing)) (not_one reads) (not_two reads)
-    ∙ sym (ap₂ (λ (t u : Bool). cond t (store_of q) (cond u (store_of q) Nothing)) (not_one reads) (not_two reads)))
+    let stored : store_of q' ≡ store_of q = ap₂ (λ (r v : ℕ). cond (eqb r 0x00) None (Some (storing r v))) a.reg (a.value (omega arith)) in
+    ap (λ (c : Option Store). cond (eqb q.kind 1) c (cond (eqb q.kind 2) c None)) stored)
+    (λ (reads : 3 ≤ q.kind). ap₂ (λ (t u : Bool). cond t (store_of q') (cond u (store_of q') None)) (not_one reads) (not_two reads)
+    ∙ sym (ap₂ (λ (t u : Bool). cond t (store_of q) (cond u (store_of q) None)) (not_one reads) (not_two reads)))
     (below_or_not q.kind 3)
   where
     not_one : 3 ≤ q.kind → eqb q.kind 1 ≡ false
@@ -63,5 +63,5 @@ acts_with n k line after q registers place is hands asks =
     record {
       acted = yes_acts;
       hands = ap (λ (t : Bool). cond t (handed n k line (get_or registers (heard n k line).reg 0)) line) yes_acts ∙ hands;
-      changes = ap (λ (t : Bool). cond t (change_asked (heard n k line)) Nothing) yes_acts ∙ asks;
+      changes = ap (λ (t : Bool). cond t (change_asked (heard n k line)) None) yes_acts ∙ asks;
     }

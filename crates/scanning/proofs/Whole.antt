@@ -17,16 +17,16 @@ use Rattle.character_check.proofs.Pass.{preamble_character, stop_character, nibb
 use Rattle.scanning.specs.Place.{first_no_character, first_no_nibble}
 use Rattle.lines.specs.Line.{line_of, byte_at, bytes_of}
 use Rattle.scanning.specs.Frame.{framed}
-use Rattle.scanning.specs.declared.Place.TheVariants.{Nowhere}
+use Rattle.std.specs.Prelude.{None}
 use Rattle.scanning.proofs.FirstPlace.{passes_nowhere, nowhere_passes, characters_along, nibbles_along}
 use Rattle.scanning.proofs.Ends.{framed_ends, first_preamble, last_stop}
 use Rattle.lines.proofs.Line.{byte_count, by_place, length_line, low_word, high_word, last_word, length_bytes, bytes_at}
 
 -- the three rows
 pub record Passes (line : List ℕ) : Type 0 where
-  pub characters : first_no_character line ≡ Nowhere
+  pub characters : first_no_character line ≡ None
   pub frame : framed line ≡ true
-  pub nibbles : first_no_nibble line ≡ Nowhere
+  pub nibbles : first_no_nibble line ≡ None
 
 -- ---- the line of some bytes passes
 

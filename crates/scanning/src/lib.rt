@@ -1,38 +1,14 @@
 // A line's words looked through: the first bad place, and the framing (document 01, rows 4 to 6 of "Turned away").
 #![tactic(auto)]
 
-ghost use Rattle.std.specs.Prelude.{◌≡◌, ◌≤◌, ◌-◌, eqb, length};
+ghost use Rattle.std.specs.Prelude.{◌≡◌, ◌≤◌, ◌-◌, eqb, length, None, ℕ, Bool, ◌<◌, ◌^◌};
 ghost use Rattle.characters.specs.Nibble.{is_nibble};
 ghost use Rattle.scanning.specs.Place.{first_no_character, first_no_nibble, is_nowhere, all_nibbles};
-ghost use Rattle.scanning.specs.Along.{test_of, failing_along};
+ghost use Rattle.scanning.specs.Along.{failing_along};
 ghost use Rattle.scanning.specs.Frame.{framed};
-ghost use Rattle.scanning.specs.declared.Place.TheVariants.{Nowhere};
 
 use character_check::is_character;
 use characters::{PREAMBLE, STOP, is_nibble};
-
-// A place of a line, counted in words from 0.
-#[derive(Clone, Copy)]
-pub enum Place {
-    At(usize),
-    Nowhere,
-}
-
-// The row that a word is held to.
-#[derive(Clone, Copy)]
-enum Row {
-    Character,
-    Manchester,
-}
-
-fn passes(row: Row, w: u16) -> bool
-    ensures { result ≡ test_of row w }
-{
-    match row {
-        Row::Character => is_character(w),
-        Row::Manchester => is_nibble(w),
-    }
-}
 
 // What keeps a word from being a nibble's, by bits: high bits, start, stops and parity that are not as in one, and bits that are not followed by
 // their complement. 0 for a nibble's word.
@@ -47,11 +23,10 @@ fn are_nibbles(line: &[u16], from: usize, to: usize) -> bool
     requires { to ≤ length line.now }
     ensures { result ≡ is_nowhere (failing_along is_nibble line.now from (to - from)) }
 {
-    let mut bad: u16 = 0;
-    let mut i = from;
-    while i < to {
-        bad = bad | misfits(line[i]);
-        i += 1;
+    // A slice `line[from..to]`, for a `fold` over it, would ask each caller for `from ≤ to` besides.
+    let mut bad = 0;
+    for i in from..to {
+        bad |= misfits(line[i]);
     }
     bad == 0
 }
@@ -59,8 +34,9 @@ fn are_nibbles(line: &[u16], from: usize, to: usize) -> bool
 // A place up to which all words are nibbles', sixteen at a time.
 fn pass_nibbles(line: &[u16], from: usize, to: usize) -> usize
     requires { (from ≤ to) × (to ≤ length line.now) }
-    ensures { (from ≤ result) × (result ≤ to) × (failing_along is_nibble line.now from (result - from) ≡ Nowhere) }
+    ensures { (from ≤ result) × (result ≤ to) × (failing_along is_nibble line.now from (result - from) ≡ None) }
 {
+    // The answer is a place, which `chunks_exact` would have counted beside its blocks all the same.
     let mut i = from;
     while 16 <= to - i {
         if !are_nibbles(line, i, i + 16) {
@@ -71,44 +47,45 @@ fn pass_nibbles(line: &[u16], from: usize, to: usize) -> usize
     i
 }
 
-// The first place from one up to another whose word fails the row's test.
-fn first_failing(line: &[u16], row: Row, from: usize, to: usize) -> Place
-    requires { to ≤ length line.now }
-    ensures { result ≡ failing_along (test_of row) line.now from (to - from) }
+// The first place from one up to another whose word does not pass.
+fn first_failing<F: Fn(u16) -> bool>(
+    line: &[u16],
+    passes: F,
+    from: usize,
+    to: usize,
+) -> Option<usize>
+    requires callable { F.IsAlwaysCallable passes }
+    requires inside { to ≤ length line.now }
+    ensures { (test : ℕ → Bool) → ((w : ℕ) (r : Bool) → w < 2 ^ 16 → F.post passes w r → r ≡ test w)
+        → result ≡ failing_along test line.now from (to - from) }
 {
-    let mut i = from;
-    while i < to {
-        if !passes(row, line[i]) {
-            return Place::At(i);
-        }
-        i += 1;
-    }
-    Place::Nowhere
+    (from..to).find(|&i| !passes(line[i]))
 }
 
-// The first place whose word is no character. A nibble is a character: behind the first word, nibbles are passed over.
-pub fn first_no_character(line: &[u16]) -> Place
+// The first place whose word is no character, counted in words from 0. A nibble is a character: behind the first word, nibbles are passed over.
+pub fn first_no_character(line: &[u16]) -> Option<usize>
     ensures { result ≡ first_no_character line.now }
 {
-    if line.len() == 0 {
-        return Place::Nowhere;
+    if line.is_empty() {
+        return None;
     }
     if !is_character(line[0]) {
-        return Place::At(0);
+        return Some(0);
     }
     let from = pass_nibbles(line, 1, line.len());
-    first_failing(line, Row::Character, from, line.len())
+    first_failing(line, is_character, from, line.len())
 }
 
 // The first place between the ends whose word is no nibble.
-pub fn first_no_nibble(line: &[u16]) -> Place
+pub fn first_no_nibble(line: &[u16]) -> Option<usize>
     ensures { result ≡ first_no_nibble line.now }
 {
     if line.len() < 2 {
-        return Place::Nowhere;
+        return None;
     }
-    let from = pass_nibbles(line, 1, line.len() - 1);
-    first_failing(line, Row::Manchester, from, line.len() - 1)
+    let end = line.len() - 1;
+    let from = pass_nibbles(line, 1, end);
+    first_failing(line, is_nibble, from, end)
 }
 
 // Whether every word between the ends is a nibble's.
@@ -125,11 +102,8 @@ pub fn all_nibbles(line: &[u16]) -> bool
 pub fn is_framed(line: &[u16]) -> bool
     ensures { result ≡ framed line.now }
 {
-    if line.len() == 0 {
+    if line.is_empty() {
         return false;
     }
-    if line[0] != PREAMBLE {
-        return false;
-    }
-    line[line.len() - 1] == STOP
+    line[0] == PREAMBLE && line[line.len() - 1] == STOP
 }

@@ -4,6 +4,7 @@ use Rattle.ground.specs.Agree.{Settled, SettledIn}
 use Rattle.twin.proofs.step.step.Reads as step
 use Rattle.twin.proofs.step.run_span.Reads as run_span
 use Rattle.twin.proofs.step.run_chain.Reads as run_chain
+use Rattle.twin.proofs.step.StepRefusalTurnedAway.number.Reads as number
 
 pub step_settled : Settled step.Post
 step_settled l given r r' left left' p q = p.says ∙ sym q.says
@@ -32,3 +33,6 @@ run_chain_settled_memory l given r r' left left' p q = p.remembers ∙ sym q.rem
 
 pub run_chain_settled_out : SettledIn (λ l left. left.1.1.1.0.now) run_chain.Post
 run_chain_settled_out l given r r' left left' p q = p.leaves ∙ sym q.leaves
+
+pub number_settled : Settled number.Post
+number_settled l given r r' left left' p q = p ∙ sym q

@@ -1,4 +1,5 @@
 -- Each device's registers are its own: a step changes those of the device that is stepped, as its rule says, and no other's.
+use Rattle.std.specs.Prelude.{Option, Some, None}
 use mathlib.Core.Path.{◌≡◌, refl, sym, ap, ◌∙◌}
 use mathlib.Core.Bool.{Bool, true, false, cond}
 use mathlib.Core.Logic.{⊎_elim}
@@ -13,25 +14,24 @@ use Rattle.lines.proofs.Line.{byte_lt}
 use Rattle.questions.specs.declared.question.Question.{Question}
 use Rattle.hearing.specs.Hear.{plainly, heard}
 use Rattle.passage.specs.Acting.{acts}
-use Rattle.passage.specs.Pass.{change_asked, changed, change_of}
+use Rattle.passage.specs.Pass.{storing, change_asked, changed, change_of}
 use Rattle.hearing.proofs.Hearing.{heard_either}
-use Rattle.passage.specs.declared.pass.Change.{Change}
-use Rattle.passage.specs.declared.pass.Change.TheVariants as change
+use Rattle.passage.specs.declared.pass.Store.{Store}
 use Rattle.twin.specs.Step.{registers_of, with_change, Chain, hop}
 
 -- a change of a register is one of the 256
-pub data InFile : Change → Type 0 where
-  nothing : InFile change.Nothing
-  store : (r v : ℕ) → r < 256 → InFile (change.Store r v)
+pub data InFile : Option Store → Type 0 where
+  nothing : InFile None
+  store : (s : Store) → s.reg < 256 → InFile (Some s)
 
 module _ (memory : List ℕ) (k : ℕ) where
   own_stored : (r v : ℕ) → r < 256 → registers_of (set memory (256 * k + r) v) k ≡ set (registers_of memory k) r v
   own_stored r v h = ap (take 256) (drop-set-add (256 * k) memory r v) ∙ take-set-lt 256 (drop (256 * k) memory) r v h
 
   -- the stepped device's registers
-  pub own_registers : (c : Change) → InFile c → registers_of (with_change memory k c) k ≡ changed (registers_of memory k) c
-  own_registers change.Nothing nothing = refl
-  own_registers (change.Store r v) (store _ _ h) = own_stored r v h
+  pub own_registers : (c : Option Store) → InFile c → registers_of (with_change memory k c) k ≡ changed (registers_of memory k) c
+  own_registers None nothing = refl
+  own_registers (Some s) (store _ h) = own_stored s.reg s.value h
 
   other_stored : (j r v : ℕ) → (j ≡ k → ⊥) → r < 256 → registers_of (set memory (256 * k + r) v) j ≡ registers_of memory j
   other_stored j r v differ h =
@@ -47,19 +47,19 @@ module _ (memory : List ℕ) (k : ℕ) where
       (below_or_not k j)
 
   -- every other device's
-  pub other_registers : (j : ℕ) → (j ≡ k → ⊥) → (c : Change) → InFile c → registers_of (with_change memory k c) j ≡ registers_of memory j
-  other_registers j differ change.Nothing nothing = refl
-  other_registers j differ (change.Store r v) (store _ _ h) = other_stored j r v differ h
+  pub other_registers : (j : ℕ) → (j ≡ k → ⊥) → (c : Option Store) → InFile c → registers_of (with_change memory k c) j ≡ registers_of memory j
+  other_registers j differ None nothing = refl
+  other_registers j differ (Some s) (store _ h) = other_stored j s.reg s.value differ h
 
 -- ---- the change that a step asks for
 
-either_in_file : (t : Bool) (a b : Change) → InFile a → InFile b → InFile (cond t a b)
+either_in_file : (t : Bool) (a b : Option Store) → InFile a → InFile b → InFile (cond t a b)
 either_in_file true a b h h' = h
 either_in_file false a b h h' = h'
 
 asked_in_file : (q : Question) → q.reg < 256 → InFile (change_asked q)
 asked_in_file q h =
-    let stored = either_in_file (eqb q.reg 0x00) change.Nothing (change.Store q.reg q.value) nothing (store q.reg q.value h) in
+    let stored = either_in_file (eqb q.reg 0x00) None (Some (storing q.reg q.value)) nothing (store (storing q.reg q.value) h) in
     either_in_file (eqb q.kind 1) _ _ stored (either_in_file (eqb q.kind 2) _ _ stored nothing)
 
 reg_lt : (n k : ℕ) (line : List ℕ) → (plainly n k line).reg < 256

@@ -1,17 +1,18 @@
 -- Devices from one place of a chain to another: none of them yet, one more, and all of the chain.
+use Rattle.std.specs.Prelude.{Result, ⊤}
 use mathlib.Core.Path.{◌≡◌, refl, sym, ap, ap₂, ◌∙◌, subst}
 use mathlib.Core.Bool.{Bool, true, false, cond, ◌&&◌}
 use mathlib.Core.List.{List}
-use Prim.Native.Nat.{ℕ, zero, suc, ◌+◌, ◌*◌, ◌≤◌}
+use Prim.Native.Nat.{ℕ, zero, suc, ◌+◌, ◌*◌, ◌≤◌, ◌<◌}
 use native.Mathlib.Omega.{arith}
-use lib.Dec.{leb}
+use lib.Dec.{leb, ltb}
 use lib.ListN.{length}
-use borrow.Author.Tests.{leb-true, le-leb, lt-leb}
+use borrow.Author.Tests.{leb-true, le-leb, lt-leb, lt-ltb}
 use Rattle.ground.proofs.Test.{and_left, and_right}
 use Rattle.registers.specs.Memory.{is_chain}
 use Rattle.registers.proofs.Power.{chain_words}
-use Rattle.twin.specs.Step.{Chain, chain_with, hop, hops_from, hops, is_span, Done, SpanDone, ChainDone}
-use Rattle.twin.specs.declared.step.Stepped.{Stepped}
+use Rattle.twin.specs.Step.{Chain, chain_with, hop, hops_from, hops, is_span, Done, StepDone, SpanDone, ChainDone}
+use Rattle.twin.specs.declared.step.StepRefusal.{StepRefusal}
 
 module _ (n : ℕ) (s : Chain) where
   -- before the first device of a span
@@ -42,6 +43,24 @@ in_span n from to words is =
       leb-true to n (and_right (is_chain n words && leb from to) (leb to n) is),
     )
 
+-- ---- one device as a span
+
+and_true : (t : Bool) → (t && true) ≡ t
+and_true true = refl
+and_true false = refl
+
+pub as_step : (n k : ℕ) (memory memory_left line out out_after : List ℕ) (r : Result ⊤ StepRefusal) → k < n
+    → SpanDone n k (k + 1) memory memory_left line out out_after r → StepDone n k memory memory_left line out out_after r
+as_step n k memory memory_left line out out_after r device done =
+    let s = chain_with memory line in
+    let chain = is_chain n (length memory) in
+    let one : hops_from n k (k + 1) s ≡ hop n k s = sym (next_of_span n s k k (omega arith)) ∙ ap (hop n k) (none_of_span n s k) in
+    let fits : is_span n k (k + 1) (length memory) ≡ (chain && ltb k n) =
+    ap₂ (λ (t u : Bool). chain && t && u) (le-leb k (k + 1) (omega arith)) (le-leb (k + 1) n (omega arith)) ∙ and_true (chain && true)
+    ∙ sym (ap (λ (t : Bool). chain && t) (lt-ltb k n device)) in
+    subst (λ (x : Chain). Done (chain && ltb k n) s x out out_after memory_left r) one
+    (subst (λ (t : Bool). Done t s (hops_from n k (k + 1) s) out out_after memory_left r) fits done)
+
 -- ---- the whole chain as a span: device 0 to the last
 
 -- row 15 alone decides
@@ -52,7 +71,7 @@ whole_chain n words = ap₂ (λ (t u : Bool). is_chain n words && t && u) (le-le
     whatever true = refl
     whatever false = refl
 
-pub as_chain : (n : ℕ) (memory memory_left line out out_after : List ℕ) (r : Stepped)
+pub as_chain : (n : ℕ) (memory memory_left line out out_after : List ℕ) (r : Result ⊤ StepRefusal)
     → SpanDone n 0 n memory memory_left line out out_after r → ChainDone n memory memory_left line out out_after r
 as_chain n memory memory_left line out out_after r done =
     let s = chain_with memory line in

@@ -1,4 +1,5 @@
 -- Devices stepped: what each way through the calls leaves.
+use Rattle.std.specs.Prelude.{Option, Some, None, Result, Ok, Err, ⊤}
 use mathlib.Core.Path.{◌≡◌, refl, sym, ap, ap₂, ◌∙◌}
 use mathlib.Core.Bool.{Bool, true, false, cond}
 use mathlib.Core.List.{List, ◌++◌}
@@ -10,66 +11,65 @@ use borrow.Author.Tests.{le-leb, lt-leb}
 use Rattle.lines.specs.Write.{at_front, left_by}
 use Rattle.passage.specs.Acting.{acts}
 use Rattle.passage.specs.Pass.{change_of}
-use Rattle.passage.specs.declared.pass.Change.{Change}
-use Rattle.passage.specs.declared.pass.Change.TheVariants.{Nothing, Store}
+use Rattle.passage.specs.declared.pass.Store.{Store}
 use Rattle.passage.proofs.ActedLength.{long_unacted}
 use Rattle.passage.proofs.EqualLength.{length_handed}
 use Rattle.passage.proofs.Passing.{left_unchanged, nothing_stored}
 use Rattle.twin.specs.Step.{registers_of, with_change, Chain, chain_with, hop, hops_from, Hopped, stepped_of, stepped_number, Done}
-use Rattle.twin.specs.declared.step.Stepped.{Stepped}
-use Rattle.twin.specs.declared.step.Stepped.TheVariants.{Handed, Twin, Room}
+use Rattle.twin.specs.declared.step.StepRefusal.{StepRefusal}
+use Rattle.twin.specs.declared.step.StepRefusal.TheVariants.{Twin, Room}
 
 -- ---- the three answers
 
 module _ (fits : Bool) (before after : Chain) (out : List ℕ) where
-  stepped_by : (t u : Bool) → fits ≡ t → leb (length before.line) (length out) ≡ u → stepped_of fits before.line out ≡ cond t (cond u Handed Room) Twin
+  stepped_by : (t u : Bool) → fits ≡ t → leb (length before.line) (length out) ≡ u → stepped_of fits before.line out ≡ cond t (cond u (Ok tt) (Err Room)) (Err Twin)
   unfolding stepped_of
-  stepped_by t u e f = ap₂ (λ (t u : Bool). cond t (cond u Handed Room) Twin) e f
+  stepped_by t u e f = ap₂ (λ (t u : Bool). cond t (cond u (Ok tt) (Err Room)) (Err Twin)) e f
 
   -- what is left, by the answer
-  out_by : (s : Stepped) → stepped_of fits before.line out ≡ s
+  out_by : (s : Result ⊤ StepRefusal) → stepped_of fits before.line out ≡ s
       → left_by (stepped_number (stepped_of fits before.line out)) (at_front after.line out) out ≡ left_by (stepped_number s) (at_front after.line out) out
-  out_by s is = ap (λ (s : Stepped). left_by (stepped_number s) (at_front after.line out) out) is
+  out_by s is = ap (λ (s : Result ⊤ StepRefusal). left_by (stepped_number s) (at_front after.line out) out) is
 
-  memory_by : (s : Stepped) → stepped_of fits before.line out ≡ s
+  memory_by : (s : Result ⊤ StepRefusal) → stepped_of fits before.line out ≡ s
       → left_by (stepped_number (stepped_of fits before.line out)) after.memory before.memory ≡ left_by (stepped_number s) after.memory before.memory
-  memory_by s is = ap (λ (s : Stepped). left_by (stepped_number s) after.memory before.memory) is
+  memory_by s is = ap (λ (s : Result ⊤ StepRefusal). left_by (stepped_number s) after.memory before.memory) is
 
-  pub turned_away : fits ≡ false → Done fits before after out out before.memory Twin
+  pub turned_away : fits ≡ false → Done fits before after out out before.memory (Err Twin)
   turned_away e =
       let is = stepped_by false (leb (length before.line) (length out)) e refl in
-      record { says = sym is; leaves = sym (out_by Twin is); remembers = sym (memory_by Twin is) }
+      record { says = sym is; leaves = sym (out_by (Err Twin) is); remembers = sym (memory_by (Err Twin) is) }
 
-  pub no_room : fits ≡ true → length out < length before.line → Done fits before after out out before.memory Room
+  pub no_room : fits ≡ true → length out < length before.line → Done fits before after out out before.memory (Err Room)
   no_room e short =
       let is = stepped_by true false e (lt-leb (length before.line) (length out) short) in
-      record { says = sym is; leaves = sym (out_by Room is); remembers = sym (memory_by Room is) }
+      record { says = sym is; leaves = sym (out_by (Err Room) is); remembers = sym (memory_by (Err Room) is) }
 
   module _ (good : fits ≡ true) (room : length before.line ≤ length out) where
-    handed : stepped_of fits before.line out ≡ Handed
+    handed : stepped_of fits before.line out ≡ Ok tt
     handed = stepped_by true true good (le-leb (length before.line) (length out) room)
 
     pub handed_on : (out_after memory : List ℕ) → length after.line ≡ length before.line
-        → out_after ≡ after.line ++ drop (length before.line) out → memory ≡ after.memory → Done fits before after out out_after memory Handed
+        → out_after ≡ after.line ++ drop (length before.line) out → memory ≡ after.memory → Done fits before after out out_after memory (Ok tt)
     handed_on out_after memory size leaves remembers =
         record {
           says = sym handed;
-          leaves = leaves ∙ ap (λ (k : ℕ). after.line ++ drop k out) (sym size) ∙ sym (out_by Handed handed);
-          remembers = remembers ∙ sym (memory_by Handed handed);
+          leaves = leaves ∙ ap (λ (k : ℕ). after.line ++ drop k out) (sym size) ∙ sym (out_by (Ok tt) handed);
+          remembers = remembers ∙ sym (memory_by (Ok tt) handed);
         }
 
 -- ---- a call that fits and has room
 
-module _ (before after : Chain) (out out_after memory_left : List ℕ) (r : Stepped) (fits : Bool) (done : Done fits before after out out_after memory_left r)
+module _ (before after : Chain) (out out_after memory_left : List ℕ) (r : Result ⊤ StepRefusal) (fits : Bool) (done : Done fits before after out out_after memory_left r)
     (good : fits ≡ true) (room : length before.line ≤ length out) where
-  pub says_handed : r ≡ Handed
+  pub says_handed : r ≡ Ok tt
   says_handed = done.says ∙ handed fits before after out good room
 
   pub leaves_line : out_after ≡ at_front after.line out
-  leaves_line = done.leaves ∙ out_by fits before after out Handed (handed fits before after out good room)
+  leaves_line = done.leaves ∙ out_by fits before after out (Ok tt) (handed fits before after out good room)
 
   pub leaves_memory : memory_left ≡ after.memory
-  leaves_memory = done.remembers ∙ memory_by fits before after out Handed (handed fits before after out good room)
+  leaves_memory = done.remembers ∙ memory_by fits before after out (Ok tt) (handed fits before after out good room)
 
 -- ---- a hop on words that hold the line in front
 
@@ -110,9 +110,9 @@ hops_length n from (suc k) s =
     either (λ (x : Chain). length x.line ≡ length s.line) (leb from k) (hop n k before) s (hop_length n k before ∙ hops_length n from k s) refl
 
 -- and no device changes how many registers there are
-with_change_length : (memory : List ℕ) (k : ℕ) (c : Change) → length (with_change memory k c) ≡ length memory
-with_change_length memory k Nothing = refl
-with_change_length memory k (Store r v) = length-set memory (256 * k + r) v
+with_change_length : (memory : List ℕ) (k : ℕ) (c : Option Store) → length (with_change memory k c) ≡ length memory
+with_change_length memory k None = refl
+with_change_length memory k (Some s) = length-set memory (256 * k + s.reg) s.value
 
 pub hops_memory : (n from to : ℕ) (s : Chain) → length (hops_from n from to s).memory ≡ length s.memory
 unfolding hops_from

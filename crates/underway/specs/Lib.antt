@@ -1,3 +1,2 @@
 pub mod OnTheWay
-pub mod Lay
 pub mod TakeUp

@@ -11,31 +11,20 @@ fn is_byte(line: &[u16], i: usize, byte: u8) -> bool
     requires { 2 * i + 2 < length line.now }
     ensures { result ≡ byte_stands line.now i byte }
 {
-    if line[2 * i + 1] != word_of(byte % 16) {
-        return false;
-    }
-    line[2 * i + 2] == word_of(byte / 16)
+    line[2 * i + 1] == word_of(byte % 16) && line[2 * i + 2] == word_of(byte / 16)
 }
 
 // Whether a line is the line of some bytes.
 pub(crate) fn is_line_of(line: &[u16], bytes: &[u8]) -> bool
     ensures { result ≡ same line.now (line_of bytes.now) }
 {
-    if line.len() < 2 {
+    if line.len() < 2 || line.len() - 2 != 2 * bytes.len() || line[0] != PREAMBLE {
         return false;
     }
-    if line.len() - 2 != 2 * bytes.len() {
-        return false;
-    }
-    if line[0] != PREAMBLE {
-        return false;
-    }
-    let mut i = 0;
-    while i < bytes.len() {
-        if !is_byte(line, i, bytes[i]) {
+    for (i, &byte) in bytes.iter().enumerate() {
+        if !is_byte(line, i, byte) {
             return false;
         }
-        i += 1;
     }
-    line[2 * i + 1] == STOP
+    line[2 * bytes.len() + 1] == STOP
 }

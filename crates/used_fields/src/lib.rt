@@ -1,10 +1,10 @@
 // The fields that each kind of question uses; the others are zero (document 01, "Job file and certificate").
 #![tactic(auto)]
 
-ghost use Rattle.std.specs.Prelude.{◌≡◌, ◌||◌, eqb};
+ghost use Rattle.std.specs.Prelude.{◌≡◌};
 ghost use Rattle.used_fields.specs.Used.{uses_of, unused_are_zero};
 
-use questions::question::{HELLOALL, Question, READALL, WRITEALL, WRITEDEVICE};
+use questions::question::{Kind, Question};
 
 // Which fields a question uses.
 #[derive(Clone, Copy)]
@@ -16,62 +16,48 @@ pub struct Uses {
 }
 
 // Whether every field that its kind does not use is 0.
+#[tactic(auto, unfolding(crate::specs::Used::unused_are_zero))]
 pub fn are_unused_zero(q: Question) -> bool
     ensures { result ≡ unused_are_zero q }
 {
     let uses = uses_of(q);
-    if !is_used_or_zero(uses.register, q.reg as u16) {
-        return false;
-    }
-    if !is_used_or_zero(uses.value, q.value) {
-        return false;
-    }
-    if !is_used_or_zero(uses.device, q.device as u16) {
-        return false;
-    }
-    is_used_or_zero(uses.seed, q.seed as u16)
+    (uses.register || q.reg == 0)
+        && (uses.value || q.value == 0)
+        && (uses.device || q.device == 0)
+        && (uses.seed || q.seed == 0)
 }
 
-fn is_used_or_zero(used: bool, field: u16) -> bool
-    ensures { result ≡ (used || eqb field 0) }
-{
-    if used {
-        return true;
-    }
-    field == 0
-}
-
+#[tactic(auto, using(questions::proofs::ByKind::asked), unfolding(crate::specs::Used::uses_of))]
 fn uses_of(q: Question) -> Uses
     ensures { result ≡ uses_of q }
 {
-    let kind = q.kind;
     let seed = q.alive == 1;
-    match kind {
-        HELLOALL => Uses {
+    match q.asks() {
+        Kind::HelloAll => Uses {
             register: false,
             value: false,
             device: false,
             seed: false,
         },
-        WRITEALL => Uses {
+        Kind::WriteAll => Uses {
             register: true,
             value: true,
             device: false,
             seed,
         },
-        WRITEDEVICE => Uses {
+        Kind::WriteDevice => Uses {
             register: true,
             value: true,
             device: true,
             seed,
         },
-        READALL => Uses {
+        Kind::ReadAll => Uses {
             register: true,
             value: false,
             device: false,
             seed,
         },
-        _ => Uses {
+        Kind::ReadDevice => Uses {
             register: true,
             value: false,
             device: true,

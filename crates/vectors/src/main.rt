@@ -7,17 +7,17 @@ mod show;
 mod volts;
 mod wire;
 
-ghost use Rattle.std.specs.Prelude.{◌≡◌, length};
+ghost use Rattle.std.specs.Prelude.{◌<◌};
 
 use lines::read::{byte_at, read_bytes};
 use scanning::{first_no_character, first_no_nibble, is_framed};
-use show::{bytes_of, place, words_of, yes_or_no};
+use show::{in_hex, place};
 use std::io;
 use writing::put_line;
 
 fn pec_of(rt: &impl Print, bytes: &[u8]) -> io::Result<()> {
     print!(rt; "PEC")?;
-    bytes_of(rt, bytes)?;
+    in_hex(rt, bytes, 2)?;
     println!(rt; ": {:02x}", pec::pec(bytes))
 }
 
@@ -30,7 +30,8 @@ fn nibble(rt: &impl Print, n: u8) -> io::Result<()> {
 fn rows(rt: &impl Print, words: &[u16]) -> io::Result<()> {
     print!(rt; "\n  no character at ")?;
     place(rt, first_no_character(words))?;
-    print!(rt; ", framed {}, no nibble at ", yes_or_no(is_framed(words)))?;
+    let framed = if is_framed(words) { "yes" } else { "no" };
+    print!(rt; ", framed {framed}, no nibble at ")?;
     place(rt, first_no_nibble(words))
 }
 
@@ -40,19 +41,25 @@ fn two_bytes(rt: &impl Print, words: &[u16]) -> io::Result<()> {
     print!(rt; "\n  byte 0 {first:02x}, byte 5 {last:02x}")
 }
 
+// The PEC of the first N bytes of a line.
+fn pec_of_first<const N: usize>(words: &[u16]) -> u8
+    requires { N < 64 }
+{
+    let mut bytes = [0; N];
+    read_bytes(words, &mut bytes);
+    pec::pec(&bytes)
+}
+
 fn two_pecs(rt: &impl Print, words: &[u16]) -> io::Result<()> {
-    let mut three: [u8; 3] = [0; 3];
-    read_bytes(words, &mut three);
-    print!(rt; ", PEC of bytes 0 to 2 {:02x}", pec::pec(&three))?;
-    let mut five: [u8; 5] = [0; 5];
-    read_bytes(words, &mut five);
-    println!(rt; ", of bytes 0 to 4 {:02x}", pec::pec(&five))
+    let three = pec_of_first::<3>(words);
+    let five = pec_of_first::<5>(words);
+    println!(rt; ", PEC of bytes 0 to 2 {three:02x}, of bytes 0 to 4 {five:02x}")
 }
 
 // A line: what rows 4 to 6 say of it, and some of its bytes.
 fn line(rt: &impl Print, words: &[u16]) -> io::Result<()> {
     print!(rt; "line")?;
-    words_of(rt, words)?;
+    in_hex(rt, words, 3)?;
     rows(rt, words)?;
     two_bytes(rt, words)?;
     two_pecs(rt, words)
@@ -68,26 +75,18 @@ fn pecs(rt: &impl Print) -> io::Result<()> {
 }
 
 fn nibbles(rt: &impl Print) -> io::Result<()> {
-    let mut n: u8 = 0;
-    while n < 16 {
+    for n in 0..16 {
         nibble(rt, n)?;
-        n += 1;
     }
     Ok(())
 }
 
 // The line of six bytes, with the bits of a mask turned over in its word 3.
 fn damaged(rt: &impl Print, bytes: &[u8], mask: u16) -> io::Result<()> {
-    let mut words = blank();
-    put_line(bytes, &mut words);
-    words[3] = words[3] ^ mask;
+    let mut words = [0; 14];
+    let _ = put_line(bytes, &mut words);
+    words[3] ^= mask;
     line(rt, &words)
-}
-
-fn blank() -> [u16; 14]
-    ensures { 14 ≡ length result }
-{
-    [0; 14]
 }
 
 // READALL of 12h for one device, and its answer for 0000h: as it is; with one bit turned over, which parity finds; with two bits of one

@@ -1,51 +1,31 @@
 // What the program prints: bytes and words in hexadecimal, places in decimal.
 use lines::read::byte_at;
-use scanning::Place;
-use std::io;
+use std::{fmt, io};
 
-pub(crate) fn yes_or_no(yes: bool) -> &'static str {
-    if yes { "yes" } else { "no" }
-}
-
-pub(crate) fn place(rt: &impl Print, p: Place) -> io::Result<()> {
+pub(crate) fn place(rt: &impl Print, p: Option<usize>) -> io::Result<()> {
     match p {
-        Place::At(i) => print!(rt; "{i}"),
-        Place::Nowhere => print!(rt; "none"),
+        Some(i) => print!(rt; "{i}"),
+        None => print!(rt; "none"),
     }
 }
 
-fn next_byte(rt: &impl Print, b: u8) -> io::Result<()> {
-    print!(rt; " {b:02x}")
-}
-
-fn next_word(rt: &impl Print, w: u16) -> io::Result<()> {
-    print!(rt; " {w:03x}")
-}
-
-pub(crate) fn bytes_of(rt: &impl Print, bytes: &[u8]) -> io::Result<()> {
-    let mut i = 0;
-    while i < bytes.len() {
-        next_byte(rt, bytes[i])?;
-        i += 1;
+// Bytes or words, each behind a space and in so many digits.
+pub(crate) fn in_hex<T: fmt::Radix + Copy>(
+    rt: &impl Print,
+    items: &[T],
+    digits: usize,
+) -> io::Result<()> {
+    for item in items {
+        print!(rt; " {item:0digits$x}")?;
     }
     Ok(())
 }
 
-pub(crate) fn words_of(rt: &impl Print, words: &[u16]) -> io::Result<()> {
-    let mut i = 0;
-    while i < words.len() {
-        next_word(rt, words[i])?;
-        i += 1;
-    }
-    Ok(())
-}
-
-// The bytes that stand on a line of so many words.
+// The bytes that stand on a line of so many words. The demonstration prints its lines by the same loop: a crate below both would hold it
+// alone, and no contract can say what it prints.
 pub(crate) fn bytes_on(rt: &impl Print, line: &[u16], words: usize) -> io::Result<()> {
-    let mut i = 1;
-    while i < words / 2 {
-        next_byte(rt, byte_at(line, i - 1))?;
-        i += 1;
+    for i in 1..words / 2 {
+        print!(rt; " {:02x}", byte_at(line, i - 1))?;
     }
     Ok(())
 }

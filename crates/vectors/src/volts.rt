@@ -1,71 +1,28 @@
 // The worked numbers of cells, and a checksum over all measurements, which an independent second program works out too.
-use cell_numbers::number_of;
-use cells::{Cell, CellRefusal, Range, Register, Voltage, read_cell};
+use cells::{Cell, Range, Register, number_of, read_cell};
 use std::io;
-
-fn range_name(range: Range) -> &'static str {
-    match range {
-        Range::Unipolar => "unipolar",
-        Range::Bipolar => "bipolar",
-    }
-}
-
-// How far n is from zero, or from -1 where it is negative: -n may not fit.
-fn distance(n: i32) -> u32 {
-    if n < 0 { (-1 - n) as u32 } else { n as u32 }
-}
-
-// The two's complement pattern.
-fn pattern(n: i32) -> u32 {
-    if n < 0 {
-        u32::MAX - distance(n)
-    } else {
-        distance(n)
-    }
-}
 
 // Only the test rules out the NaN, which has no one pattern; no cell gives it.
 fn float_pattern(x: f32) -> u32 {
-    if x != x { u32::MAX } else { f32::to_bits(x) }
-}
-
-fn measured(rt: &impl Print, v: Voltage) -> io::Result<()> {
-    print!(rt;
-        "{} microvolts, volts {:08x}",
-        v.microvolts,
-        float_pattern(v.volts)
-    )
-}
-
-fn turned_away(rt: &impl Print, why: CellRefusal) -> io::Result<()> {
-    match why {
-        CellRefusal::Channel => print!(rt; "turned away, CHANNEL"),
-        CellRefusal::LowBits => print!(rt; "turned away, LOW BITS"),
-    }
+    if x.is_nan() { u32::MAX } else { x.to_bits() }
 }
 
 fn said(rt: &impl Print, answer: Cell) -> io::Result<()> {
     print!(rt; "number {}, ", number_of(answer))?;
     match answer {
-        Cell::Measured(v) => {
-            measured(rt, v)?;
-        }
-        Cell::NotMeasured => {
-            print!(rt; "not measured")?;
-        }
-        Cell::Refused(why) => {
-            turned_away(rt, why)?;
-        }
+        Cell::Measured(v) => println!(rt;
+            "{} microvolts, volts {:08x}",
+            v.microvolts,
+            float_pattern(v.volts)
+        ),
+        Cell::NotMeasured => println!(rt; "not measured"),
+        Cell::Refused(why) => println!(rt; "turned away, {why}"),
     }
-    println!(rt)
 }
 
 // A cell, by its register and the mask of enabled cells.
 fn cell(rt: &impl Print, range: Range, mask: u16, c: u8, register: u16) -> io::Result<()> {
-    print!(rt;
-        "cell {c}, {}, mask {mask:03x}, register {register:04x}: ",
-        range_name(range)
-    )?;
+    print!(rt; "cell {c}, {range}, mask {mask:03x}, register {register:04x}: ")?;
     said(rt, read_cell(range, mask, c, Register(register)))
 }
 
@@ -86,33 +43,32 @@ pub(crate) fn worked(rt: &impl Print) -> io::Result<()> {
 
 // Five places to the left, the bits that leave coming in on the right.
 fn fold(sum: u32, w: u32) -> u32 {
-    ((sum << 5) | (sum >> 27)) ^ w
+    sum.rotate_left(5) ^ w
 }
 
 fn fold_cell(sum: u32, answer: Cell) -> u32 {
     match answer {
-        Cell::Measured(v) => fold(fold(sum, pattern(v.microvolts)), float_pattern(v.volts)),
-        Cell::NotMeasured => fold(fold(sum, u32::MAX), u32::MAX),
-        Cell::Refused(_) => fold(fold(sum, u32::MAX), u32::MAX),
+        Cell::Measured(v) => fold(
+            fold(sum, v.microvolts.cast_unsigned()),
+            float_pattern(v.volts),
+        ),
+        Cell::NotMeasured | Cell::Refused(_) => fold(fold(sum, u32::MAX), u32::MAX),
     }
 }
 
 // All measurements, the cells taking turns.
 fn sum_of(range: Range) -> u32 {
-    let mut sum: u32 = 0;
-    let mut m: u16 = 0;
-    while m < 16384 {
-        let c = (1 + m % 12) as u8;
-        sum = fold_cell(sum, read_cell(range, 0xFFF, c, Register(m * 4)));
-        m += 1;
-    }
-    sum
+    (0..16384u16).fold(0, |sum, m| {
+        fold_cell(
+            sum,
+            read_cell(range, 0xFFF, (1 + m % 12) as u8, Register(m * 4)),
+        )
+    })
 }
 
 fn sweep(rt: &impl Print, range: Range) -> io::Result<()> {
     println!(rt;
-        "measurements 0 to 16383, {}: checksum {:08x}",
-        range_name(range),
+        "measurements 0 to 16383, {range}: checksum {:08x}",
         sum_of(range)
     )
 }

@@ -1,8 +1,6 @@
 // The worked numbers of commands: what the command writer writes.
-ghost use Rattle.std.specs.Prelude.{◌≡◌, length};
-
 use crate::show::bytes_on;
-use commands::{Issued, write_command};
+use commands::write_command;
 use questions::question::{HELLOALL, Question, READALL, READDEVICE, WRITEALL, WRITEDEVICE};
 use std::io;
 
@@ -18,28 +16,18 @@ pub(crate) fn show_question(rt: &impl Print, q: Question) -> io::Result<()> {
     )
 }
 
-fn forty_words() -> [u16; 40]
-    ensures { 40 ≡ length result }
-{
-    [0; 40]
-}
-
 // The words and bytes of the command, or that its question or its room turned it away. There is room for 40 words.
 fn command(rt: &impl Print, q: Question) -> io::Result<()> {
     print!(rt; "command of ")?;
     show_question(rt, q)?;
-    let mut line = forty_words();
-    let issued = write_command(q, &mut line);
-    match issued {
-        Issued::Words(n) => {
+    let mut line = [0; 40];
+    match write_command(q, &mut line) {
+        Ok(n) => {
             print!(rt; " words {n},")?;
             bytes_on(rt, &line, n)?;
         }
-        Issued::Question => {
-            print!(rt; " turned away, QUESTION")?;
-        }
-        Issued::Room => {
-            print!(rt; " turned away, ROOM")?;
+        Err(why) => {
+            print!(rt; " turned away, {why}")?;
         }
     }
     println!(rt)

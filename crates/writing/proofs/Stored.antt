@@ -14,9 +14,9 @@ use Rattle.characters.specs.Character.{preamble, stop}
 use Rattle.characters.specs.Nibble.{nibble_word}
 use Rattle.lines.specs.Line.{characters_of, line_of}
 use Rattle.lines.specs.Write.{at_front, left_by}
-use Rattle.writing.specs.PutLine.{put_of, put_number, out_of, LinePut, with_byte}
-use Rattle.writing.specs.declared.Put.{Put}
-use Rattle.writing.specs.declared.Put.TheVariants.{Words, NoRoom}
+use Rattle.writing.specs.PutLine.{no_room, put_of, put_number, out_of, LinePut, with_byte}
+use Rattle.std.specs.Prelude.{Result, Ok, Err}
+use Rattle.writing.specs.declared.NoRoom.{NoRoom}
 use Rattle.lines.proofs.Line.{length_characters, length_line}
 
 -- the characters of two runs of bytes
@@ -57,29 +57,29 @@ stored_all bytes out h =
 -- ---- the two answers
 
 module _ (bytes out : List ℕ) where
-  says_by : (t : Bool) → leb (length (line_of bytes)) (length out) ≡ t → put_of bytes out ≡ cond t (Words (length (line_of bytes))) NoRoom
+  says_by : (t : Bool) → leb (length (line_of bytes)) (length out) ≡ t → put_of bytes out ≡ cond t (Ok (length (line_of bytes))) (Err no_room)
   unfolding put_of
-  says_by t e = ap (λ (t : Bool). cond t (Words (length (line_of bytes))) NoRoom) e
+  says_by t e = ap (λ (t : Bool). cond t (Ok (length (line_of bytes))) (Err no_room)) e
 
-  leaves_by : (p : Put) → put_of bytes out ≡ p → out_of bytes out ≡ left_by (put_number p) (at_front (line_of bytes) out) out
+  leaves_by : (p : Result ℕ NoRoom) → put_of bytes out ≡ p → out_of bytes out ≡ left_by (put_number p) (at_front (line_of bytes) out) out
   unfolding out_of
-  leaves_by p is = ap (λ (p : Put). left_by (put_number p) (at_front (line_of bytes) out) out) is
+  leaves_by p is = ap (λ (p : Result ℕ NoRoom). left_by (put_number p) (at_front (line_of bytes) out) out) is
 
-  pub refused : length out < 2 * length bytes + 2 → LinePut bytes out out NoRoom
+  pub refused : length out < 2 * length bytes + 2 → LinePut bytes out out (Err no_room)
   refused h =
       let less : length out < length (line_of bytes) = omega (arith, length_line bytes) in
-      let is : put_of bytes out ≡ NoRoom = says_by false (lt-leb (length (line_of bytes)) (length out) less) in
-      record { says = sym is; leaves = sym (leaves_by NoRoom is) }
+      let is : put_of bytes out ≡ Err no_room = says_by false (lt-leb (length (line_of bytes)) (length out) less) in
+      record { says = sym is; leaves = sym (leaves_by (Err no_room) is) }
 
   -- where there is room
-  fits : length (line_of bytes) ≤ length out → put_of bytes out ≡ Words (length (line_of bytes))
+  fits : length (line_of bytes) ≤ length out → put_of bytes out ≡ Ok (length (line_of bytes))
   fits room = says_by true (le-leb (length (line_of bytes)) (length out) room)
 
   pub put_whole : length (line_of bytes) ≤ length out → out_of bytes out ≡ at_front (line_of bytes) out
-  put_whole room = leaves_by (Words (length (line_of bytes))) (fits room)
+  put_whole room = leaves_by (Ok (length (line_of bytes))) (fits room)
 
   pub written : (after : List ℕ) (n : ℕ) → 2 * length bytes + 2 ≤ length out → n ≡ 2 * length bytes + 2
-      → after ≡ at_front (line_of bytes) out → LinePut bytes out after (Words n)
+      → after ≡ at_front (line_of bytes) out → LinePut bytes out after (Ok n)
   written after n h e s =
       let room : length (line_of bytes) ≤ length out = omega (arith, length_line bytes) in
-      record { says = ap Words (e ∙ sym (length_line bytes)) ∙ sym (fits room); leaves = s ∙ sym (put_whole room) }
+      record { says = ap Ok (e ∙ sym (length_line bytes)) ∙ sym (fits room); leaves = s ∙ sym (put_whole room) }

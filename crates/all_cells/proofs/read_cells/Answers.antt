@@ -1,49 +1,26 @@
--- `read_cells` meets its contract: the cells answered so far, and then those of the registers still to come, are the twelve.
-use mathlib.Core.Path.{◌≡◌, refl, ap, ◌∙◌}
-use mathlib.Core.List.{List, ◌++◌, append_assoc, append-nil}
-use Prim.Native.Nat.{ℕ, ◌+◌, ◌<◌}
-use native.Mathlib.Numerals.{add-one}
+-- `read_cells` meets its contract: each cell is read by its own register, and there are twelve of both.
+use mathlib.Core.Path.{◌≡◌, sym, ap, ◌∙◌}
+use Rattle.std.proofs.Common.{rules, ℕ, get_or, length, ◌+◌}
+use Rattle.std.proofs.lemmas.List.{ext_get_or}
 use native.Mathlib.Omega.{arith}
-use lib.ListN.{length, take, drop, set, get_or, length-set}
-use lib.Seq.{take-suc-set, take_all, drop-cons, drop-length}
-use Rattle.cells.specs.Cell.{cell_of, cells_from, cells_of}
-use Rattle.cells.specs.declared.Cell.{Cell}
-use Rattle.cells.specs.declared.Range.{Range}
+use Rattle.cells.specs.Cell.{cell_of, cells_of}
+use Rattle.cells.specs.declared.Cell.TheVariants.{NotMeasured}
 use Rattle.cells.specs.declared.Register.{Register}
-use Rattle.all_cells.proofs.read_cells.Invariants.{to_come}
+use Rattle.cells.proofs.EachRegister.{cells_number_lem, cell_at}
+use Rattle.all_cells.proofs.FromFn.{element}
 use Rattle.all_cells.proofs.read_cells.Goals as goal
 
-module _ (range : Range) (mask : ℕ) (registers : List Register) (cells : List Cell) (i : ℕ) where
-  -- one register more is read
-  next : (cell : Cell) (nothing : Register) → i < length registers → i < length cells → cell ≡ cell_of range mask (i + 1) (get_or registers i nothing).0
-      → take (i + 1) (set cells i cell) ++ to_come range mask registers (i + 1) ≡ take i cells ++ to_come range mask registers i
-  next cell nothing h k is =
-      rw (drop-cons registers i nothing)
-      (ap (λ (n : ℕ). take n (set cells i cell) ++ cells_from range mask (i + 1 + 1) (drop n registers)) (add-one i)
-      ∙ rw (take-suc-set cells i cell k, append_assoc, is) refl)
-
-  -- every register is read
-  all_read : i ≡ length registers → length cells ≡ i → cells ≡ take i cells ++ to_come range mask registers i
-  all_read all same = rw (all, drop-length registers, append-nil, take_all (length registers) cells (omega arith))
-
-pub loop-i-init : goal.loop-i-init
-unfolding cells_of
-loop-i-init c = (omega arith, refl, refl)
-
-pub loop-i-preserved : goal.loop-i-preserved
-loop-i-preserved c =
-    let at = c.loop-i in
-    let twelve : length c.args.registers ≡ 12 = omega (arith, c.well_formed.1.1.0) in (
-      omega arith,
-      next c.args.range c.args.mask c.args.registers at.cells at.i c.read_cell.result _ (omega arith) (omega arith)
-          c.read_cell.ensures
-          ∙ at.invariant.1,
-      length-set at.cells at.i c.read_cell.result ∙ at.invariant.2,
-    )
-
 pub returns : goal.returns
+unfolding cells_of
 returns c =
-    let at = c.loop-i in
-    let twelve : length c.args.registers ≡ 12 = omega (arith, c.well_formed.1.1.0) in
-    let all : at.i ≡ length c.args.registers = omega arith in
-    all_read c.args.range c.args.mask c.args.registers at.cells at.i all (omega arith) ∙ at.invariant.1
+    let a = c.args in
+    let nothing : Register = record { 0 = 0 } in
+    let twelve : length a.registers ≡ 12 = omega (arith, c.well_formed) in
+    let many = cells_number_lem a.range a.mask 1 a.registers in
+    ext_get_or NotMeasured c.from_fn.result (cells_of a.range a.mask a.registers) (c.from_fn.ensures.items.long ∙ sym (many ∙ twelve)) (λ k lt.
+    element _ (a.range, a.mask, a.registers) (λ i. cell_of a.range a.mask (i + 1) (get_or a.registers i nothing).0)
+    (λ i y q called. let m = called.met in ((λ j. (m.1.0 j, m.1.1 j, m.1.2 j)), search (rules, m.0)))
+    c.from_fn.result 12 c.from_fn.ensures.items k NotMeasured (omega (arith, lt, c.from_fn.ensures.items.long))
+    ∙ (let on : k + 1 ≡ 1 + k = omega arith in
+    ap (λ (n : ℕ). cell_of a.range a.mask n (get_or a.registers k nothing).0) on
+    ∙ sym (cell_at a.range a.mask 1 a.registers k NotMeasured nothing (omega (arith, lt, c.from_fn.ensures.items.long, twelve)))))

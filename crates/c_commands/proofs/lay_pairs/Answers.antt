@@ -12,25 +12,24 @@ use Rattle.c_commands.proofs.lay_pairs.Goals as goal
 
 pub loop-k-init : goal.loop-k-init
 unfolding as_bytes characters_of fill_pairs
-loop-k-init c = (omega arith, refl, refl)
+loop-k-init c = (refl, refl)
 
 pub loop-k-preserved : goal.loop-k-preserved
 loop-k-preserved c =
     let a = c.args in
     let at = c.loop-k in (
-      omega arith,
       c.lay_pair.ensures
-          ∙ ap (λ (l : List ℕ). laid l (a.start + 8 * at.k) (characters_of (fill_pairs 1))) at.invariant.1
+          ∙ ap (λ (l : List ℕ). laid l (a.start + 8 * at.k) (characters_of (fill_pairs 1))) at.invariant.0
           ∙ pairs_next a.out.now a.start at.k,
-      c.lay_pair.auto.out ∙ at.invariant.2,
+      c.lay_pair.auto.out ∙ at.invariant.1,
     )
 
 pub shape_of-out : goal.shape_of-out
-shape_of-out c = c.loop-k.invariant.2
+shape_of-out c = c.loop-k.invariant.1
 
 pub returns : goal.returns
 returns c =
     let a = c.args in
     let at = c.loop-k in
     let all : at.k ≡ a.pairs = omega arith in
-    at.invariant.1 ∙ ap (λ (k : ℕ). laid a.out.now a.start (characters_of (fill_pairs k))) all
+    at.invariant.0 ∙ ap (λ (k : ℕ). laid a.out.now a.start (characters_of (fill_pairs k))) all

@@ -21,14 +21,14 @@ slice_bounds-read-end c =
     simp length-take (omega (arith, c.take_line-count.ensures.counts, taken_most (length blank) c.args.line.now, (length-replicate {A = ℕ} 140 0), c.take_line-count.auto.words))
 
 pub slice_bounds-read-end-2 : goal.slice_bounds-read-end-2
-slice_bounds-read-end-2 c = simp length-take (omega (arith, c.room_in-room.ensures, (length-replicate {A = ℕ} 32 0)))
+slice_bounds-read-end-2 c = simp length-take (omega (arith, c.min-room.ensures, (length-replicate {A = ℕ} 32 0)))
 
 pub slice_bounds-values-end-2 : goal.slice_bounds-values-end-2
 slice_bounds-values-end-2 c =
     let a = c.args in
-    let room = c.room_in-room.result in
+    let room = c.min-room.result in
     let values = (replicate {A = ℕ} 32 0) in
-    let is_room = c.room_in-room.ensures in
+    let is_room = c.min-room.ensures in
     let is_line = line_front a.line.now ((replicate {A = ℕ} 140 0)) c.take_line-count.new.words c.take_line-count.result c.take_line-count.ensures ∙ ap (λ (n : ℕ). line_in n a.line.now) ((length-replicate {A = ℕ} 140 0)) in
     let size = length-take-le room values (omega (arith, is_room, (length-replicate {A = ℕ} 32 0))) in
     omega (arith, few_values a.q a.line.now a.out.now room is_room (take c.take_line-count.result c.take_line-count.new.words) (take room values) c.read-reading.new.out c.read-reading.result is_line size c.read-reading.ensures, c.values_taken-taken.ensures, is_room, length-append c.read-reading.new.out (drop room values), c.read-reading.auto.out, size, length-drop room values, (length-replicate {A = ℕ} 32 0))
@@ -36,9 +36,9 @@ slice_bounds-values-end-2 c =
 pub slice_bounds-pack-end : goal.slice_bounds-pack-end
 slice_bounds-pack-end c =
     let a = c.args in
-    let room = c.room_in-room.result in
+    let room = c.min-room.result in
     let values = (replicate {A = ℕ} 32 0) in
-    let is_room = c.room_in-room.ensures in
+    let is_room = c.min-room.ensures in
     let is_line = line_front a.line.now ((replicate {A = ℕ} 140 0)) c.take_line-count.new.words c.take_line-count.result c.take_line-count.ensures ∙ ap (λ (n : ℕ). line_in n a.line.now) ((length-replicate {A = ℕ} 140 0)) in
     let size = length-take-le room values (omega (arith, is_room, (length-replicate {A = ℕ} 32 0))) in
     simp length-take (omega (arith, length-append c.read-reading.new.out (drop room values), c.read-reading.auto.out, size, length-drop room values, few_values a.q a.line.now a.out.now room is_room (take c.take_line-count.result c.take_line-count.new.words) (take room values) c.read-reading.new.out c.read-reading.result is_line size c.read-reading.ensures, c.values_taken-taken.ensures, is_room, length-append c.read-reading.new.out (drop room values), c.read-reading.auto.out, size, length-drop room values, (length-replicate {A = ℕ} 32 0)))
@@ -46,9 +46,9 @@ slice_bounds-pack-end c =
 pub returns : goal.returns
 returns c =
     let a = c.args in
-    let room = c.room_in-room.result in
+    let room = c.min-room.result in
     let values = (replicate {A = ℕ} 32 0) in
-    let is_room = c.room_in-room.ensures in
+    let is_room = c.min-room.ensures in
     let is_line = line_front a.line.now ((replicate {A = ℕ} 140 0)) c.take_line-count.new.words c.take_line-count.result c.take_line-count.ensures ∙ ap (λ (n : ℕ). line_in n a.line.now) ((length-replicate {A = ℕ} 140 0)) in
     let size = length-take-le room values (omega (arith, is_room, (length-replicate {A = ℕ} 32 0))) in
     read_done a.q a.line.now a.out.now room is_room (take c.take_line-count.result c.take_line-count.new.words) (take room values) c.read-reading.new.out c.read-reading.result is_line size c.read-reading.ensures (drop room values) _ c.packed_reading.result c.read-reading.auto.out

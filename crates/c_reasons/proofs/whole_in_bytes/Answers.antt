@@ -2,10 +2,10 @@
 use mathlib.Core.Path.{ap}
 use native.Mathlib.Omega.{arith}
 use Prim.Native.Nat.{◌*◌}
+use Rattle.std.specs.Prelude.{Some}
 use Rattle.questions.specs.declared.question.Shape.{Shape}
 use Rattle.reasons.specs.Reason.{found}
 use Rattle.reasons.specs.declared.Spot.TheVariants.{Whole}
-use Rattle.reasons.specs.declared.Right.TheVariants.{One}
 use Rattle.c_reasons.proofs.OnWords.{words_le}
 use Rattle.c_reasons.proofs.whole_in_bytes.Goals as goal
 
@@ -16,4 +16,4 @@ overflow_mul-result c =
 pub returns : goal.returns
 returns c =
     let a = c.args in
-    ap (λ (s : Shape). found a.b.why Whole a.bytes (One (2 * s.words))) c.shape_of-s.ensures
+    ap (λ (s : Shape). found a.b.why Whole a.bytes (Some (2 * s.words))) c.shape_of-s.ensures

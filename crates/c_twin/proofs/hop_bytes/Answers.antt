@@ -6,7 +6,6 @@ use native.Mathlib.Omega.{arith}
 use lib.ListN.{length, take, drop, replicate, length-replicate}
 use lib.Seq.{length-take-le, length_front}
 use Rattle.packing.specs.Words.{LineTaken}
-use Rattle.c_twin.proofs.Bytes.{chain_bytes}
 use Rattle.c_twin.proofs.SteppedBytes.{line_count, hopped}
 use Rattle.c_twin.proofs.hop_bytes.Goals as goal
 
@@ -25,35 +24,31 @@ module _ (line : List ℕ) (even : length line % 2 ≡ 0) (short : length line �
 pub slice_bounds-words-end : goal.slice_bounds-words-end
 slice_bounds-words-end c =
     let take_line = c.take_line-count in
-    few c.args.line.now c.requires.3 c.requires.4 take_line.new.words take_line.result take_line.ensures take_line.auto.words
+    few c.args.line.now c.requires.1 c.requires.2 take_line.new.words take_line.result take_line.ensures take_line.auto.words
 
 pub slice_bounds-hops_in_place-end : goal.slice_bounds-hops_in_place-end
 slice_bounds-hops_in_place-end c =
     let take_line = c.take_line-count in
-    sym (length-take-le take_line.result _ (few c.args.line.now c.requires.3 c.requires.4 take_line.new.words take_line.result take_line.ensures take_line.auto.words))
-
-pub hops_in_place-requires : goal.hops_in_place-requires
-hops_in_place-requires c =
-    (c.requires.1, omega (arith, c.requires.2, chain_bytes c.args.n (length c.args.memory.now) c.requires.0))
+    sym (length-take-le take_line.result _ (few c.args.line.now c.requires.1 c.requires.2 take_line.new.words take_line.result take_line.ensures take_line.auto.words))
 
 pub slice_bounds-words-end-2 : goal.slice_bounds-words-end-2
 slice_bounds-words-end-2 c =
     let take_line = c.take_line-count in
     let hops = c.hops_in_place in
-    still c.args.line.now c.requires.3 c.requires.4 take_line.new.words take_line.result take_line.ensures take_line.auto.words hops.new.line hops.auto.line
+    still c.args.line.now c.requires.1 c.requires.2 take_line.new.words take_line.result take_line.ensures take_line.auto.words hops.new.line hops.auto.line
 
 pub slice_bounds-pack-end : goal.slice_bounds-pack-end
 slice_bounds-pack-end c =
     let take_line = c.take_line-count in
     let hops = c.hops_in_place in
     sym (length-take-le take_line.result _
-    (still c.args.line.now c.requires.3 c.requires.4 take_line.new.words take_line.result take_line.ensures take_line.auto.words hops.new.line hops.auto.line))
+    (still c.args.line.now c.requires.1 c.requires.2 take_line.new.words take_line.result take_line.ensures take_line.auto.words hops.new.line hops.auto.line))
 
 pub returns : goal.returns
 returns c =
     let a = c.args in
     let take_line = c.take_line-count in
     let hops = c.hops_in_place in
-    hopped a.line.now (replicate {A = ℕ} 140 0) c.requires.3 c.requires.4 (length-replicate {A = ℕ} 140 0) _ take_line.result take_line.ensures
-    a.n a.from a.to a.memory.now a.out.now c.requires.0 c.requires.5 take_line.auto.words
+    hopped a.line.now (replicate {A = ℕ} 140 0) c.requires.1 c.requires.2 (length-replicate {A = ℕ} 140 0) _ take_line.result take_line.ensures
+    a.span.n a.span.from a.span.to a.memory.now a.out.now c.requires.0 c.requires.3 take_line.auto.words
     hops.new.memory _ _ (λ i. (c.slice_known-3-1.given i).fits) hops.auto.memory hops.ensures c.pack.ensures

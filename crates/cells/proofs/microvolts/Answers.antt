@@ -1,8 +1,7 @@
--- `microvolts`: each step fits a signed word, and the quotient is the nearest whole number.
-use mathlib.Core.Path.{◌≡◌, refl, sym, ap, ◌∙◌, subst}
+-- `microvolts`: each step is its own word, and the quotient is the nearest whole number.
+use mathlib.Core.Path.{◌≡◌, refl, sym, ap, ◌∙◌}
 use mathlib.Core.Bool.{true, false}
 use Prim.Native.Nat.{◌<◌}
-use lib.Dec.{lit<}
 use lib.IntN.{ℤ, pos, negsuc, nat_abs, ◌+ℤ◌, ◌*ℤ◌}
 use lib.Signed.{lt_z, quot_z}
 use mir.Syntax.{w32}
@@ -25,14 +24,8 @@ module _ (d : ℤ) (f : SFits w32 d) (h : nat_abs d < 16384) (half : ℤ) (away 
   plus : to_z w32 (of_z w32 (to_z w32 (of_z w32 d) *ℤ pos 78125)) +ℤ half ≡ d *ℤ pos 78125 +ℤ half_of d
   plus = λ i. scaled d f h i +ℤ sym away i
 
-  plus_fits : SFits w32 (to_z w32 (of_z w32 (to_z w32 (of_z w32 d) *ℤ pos 78125)) +ℤ half)
-  plus_fits = subst (SFits w32) (sym plus) (half_fits d h)
-
   cut : quot_z (to_z w32 (of_z w32 (to_z w32 (of_z w32 (to_z w32 (of_z w32 d) *ℤ pos 78125)) +ℤ half))) (pos 256) ≡ microvolts_of d
   cut = ap (λ (z : ℤ). quot_z z (pos 256)) (kept _ (d *ℤ pos 78125 +ℤ half_of d) plus (half_fits d h)) ∙ half_is d
-
-  cut_fits : SFits w32 (quot_z (to_z w32 (of_z w32 (to_z w32 (of_z w32 (to_z w32 (of_z w32 d) *ℤ pos 78125)) +ℤ half))) (pos 256))
-  cut_fits = subst (SFits w32) (sym cut) (microvolts_fit d h)
 
   answer : to_z w32 (of_z w32 (quot_z (to_z w32 (of_z w32 (to_z w32 (of_z w32 (to_z w32 (of_z w32 d) *ℤ pos 78125)) +ℤ half))) (pos 256))) ≡ microvolts_of d
   answer = kept _ (microvolts_of d) cut (microvolts_fit d h)
@@ -43,22 +36,6 @@ taken d f t = half_below d (ap (λ (z : ℤ). lt_z z (pos 0)) (sym (kept d d ref
 
 left : (d : ℤ) → SFits w32 d → lt_z (to_z w32 (of_z w32 d)) (pos 0) ≡ false → half_of d ≡ pos 128
 left d f t = half_above d (ap (λ (z : ℤ). lt_z z (pos 0)) (sym (kept d d refl f)) ∙ t)
-
-pub overflow_mul-scaled : goal.overflow_mul-scaled
-overflow_mul-scaled c = subst (SFits w32) (sym (times c.args.d c.ranges.d c.requires)) (scaled_fits c.args.d c.requires)
-
-pub overflow_sub-result : goal.overflow_sub-result
-overflow_sub-result c = plus_fits c.args.d c.ranges.d c.requires (negsuc 127) (taken c.args.d c.ranges.d c.if-d-lt0.true)
-
-pub nonzero_div-result : goal.nonzero_div-result
-nonzero_div-result c =
-    (lit< tt, cut_fits c.args.d c.ranges.d c.requires (negsuc 127) (taken c.args.d c.ranges.d c.if-d-lt0.true))
-
-pub overflow_add-result : goal.overflow_add-result
-overflow_add-result c = plus_fits c.args.d c.ranges.d c.requires (pos 128) (left c.args.d c.ranges.d c.if-d-lt0.false)
-
-pub nonzero_div-result-else-d-lt0 : goal.nonzero_div-result-else-d-lt0
-nonzero_div-result-else-d-lt0 c = (lit< tt, cut_fits c.args.d c.ranges.d c.requires (pos 128) (left c.args.d c.ranges.d c.if-d-lt0.false))
 
 pub returns-then-d-lt0 : goal.returns-then-d-lt0
 returns-then-d-lt0 c = answer c.args.d c.ranges.d c.requires (negsuc 127) (taken c.args.d c.ranges.d c.if-d-lt0.true)

@@ -2,14 +2,8 @@
 -- are read off the code (`_`; a literal below zero is the `neg` of one above): all of it would hold of -5 and -16384.0, but the sign of 0 V.
 use mathlib.Core.Path.{refl}
 use lib.Ieee.{of_bits, neg}
-use Rattle.cells.proofs.Quotient.{product_fits, product_in_float, quotient}
+use Rattle.cells.proofs.Quotient.{quotient}
 use Rattle.cells.proofs.volts.Goals as goal
-
-pub overflow_mul-result : goal.overflow_mul-result
-overflow_mul-result c = product_fits c.args.d c.requires _ refl
-
-pub int_to_float-result : goal.int_to_float-result
-int_to_float-result c = product_in_float c.args.d c.requires _ refl
 
 pub returns : goal.returns
 unfolding of_bits neg

@@ -18,5 +18,5 @@ returns c =
     let told = c.tell-told.ensures in
     let text = a.text.now in
     let after = c.print.new.text in
-    subst (λ (s : Standing). PrintDone a.header.version a.header.n (numbers_of (heard_in a.file.now)) s text after c.print.result) told.standing
-    (subst (λ (numbers : List ℕ). PrintDone a.header.version a.header.n numbers c.tell-told.result.standing text after c.print.result) told.numbers c.print.ensures)
+    subst (λ (s : Standing). PrintDone a.job.header.version a.job.header.n (numbers_of (heard_in a.job.file.now)) s text after c.print.result) told.standing
+    (subst (λ (numbers : List ℕ). PrintDone a.job.header.version a.job.header.n numbers c.tell-told.result.standing text after c.print.result) told.numbers c.print.ensures)

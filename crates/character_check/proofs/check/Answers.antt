@@ -9,7 +9,7 @@ use borrow.Author.Tests.{eq-eqb, ne_eqb}
 use Rattle.characters.specs.Character.{bit}
 use Rattle.character_check.specs.Fault.{unless, checked_of}
 use Rattle.character_check.specs.declared.Fault.TheVariants.{Parity}
-use Rattle.character_check.specs.declared.Checked.TheVariants.{Sound}
+use Rattle.std.specs.Prelude.{Ok}
 use Rattle.character_check.proofs.Parity.{no_both_stops, left_to_parity}
 use Rattle.character_check.proofs.check.Goals as goal
 
@@ -38,9 +38,9 @@ returns-then-w-ne3 c =
 
 -- what the tests before it leave to the last
 to_the_last : (w : ℕ) (even : Bool) → w / 4096 ≡ 0 → w % 2 ≡ 0 → w / 1024 % 4 ≡ 3 → eqb (ones w % 2) 0 ≡ even
-    → unless even Parity Sound ≡ checked_of w
+    → unless even Parity (Ok tt) ≡ checked_of w
 to_the_last w even clear start both is =
-    ap (λ (t : Bool). unless t Parity Sound) (sym is) ∙ left_to_parity w (omega (arith, clear)) (omega (arith, start)) both
+    ap (λ (t : Bool). unless t Parity (Ok tt)) (sym is) ∙ left_to_parity w (omega (arith, clear)) (omega (arith, start)) both
 
 pub returns-then-w-ne0-3 : goal.returns-then-w-ne0-3
 returns-then-w-ne0-3 c =

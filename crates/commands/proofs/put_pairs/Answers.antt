@@ -11,25 +11,24 @@ use Rattle.commands.proofs.put_pairs.Goals as goal
 
 pub loop-k-init : goal.loop-k-init
 unfolding characters_of fill_pairs
-loop-k-init c = (omega arith, refl, refl)
+loop-k-init c = (refl, refl)
 
 pub loop-k-preserved : goal.loop-k-preserved
 loop-k-preserved c =
     let a = c.args in
     let at = c.loop-k in (
-      omega arith,
       c.put_pair.ensures
-          ∙ ap (λ (words : List ℕ). sets words (a.start + 4 * at.k) (characters_of (fill_pairs 1))) at.invariant.1
+          ∙ ap (λ (words : List ℕ). sets words (a.start + 4 * at.k) (characters_of (fill_pairs 1))) at.invariant.0
           ∙ pairs_next a.out.now a.start at.k,
-      c.put_pair.auto.out ∙ at.invariant.2,
+      c.put_pair.auto.out ∙ at.invariant.1,
     )
 
 pub shape_of-out : goal.shape_of-out
-shape_of-out c = c.loop-k.invariant.2
+shape_of-out c = c.loop-k.invariant.1
 
 pub returns : goal.returns
 returns c =
     let a = c.args in
     let at = c.loop-k in
     let all : at.k ≡ a.pairs = omega arith in
-    at.invariant.1 ∙ ap (λ (k : ℕ). sets a.out.now a.start (characters_of (fill_pairs k))) all
+    at.invariant.0 ∙ ap (λ (k : ℕ). sets a.out.now a.start (characters_of (fill_pairs k))) all

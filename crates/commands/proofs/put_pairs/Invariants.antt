@@ -1,6 +1,5 @@
 -- `put_pairs` meets its contract: the loop keeps so many fill pairs stored from the start on, and all else as it was.
 use mathlib.Core.Path.{◌≡◌}
-use Prim.Native.Nat.{◌-◌, ◌≤◌}
 use lib.ListN.{length}
 use lib.Seq.{sets}
 use Rattle.lines.specs.Line.{characters_of}
@@ -8,7 +7,4 @@ use Rattle.questions.specs.Bytes.{fill_pairs}
 use Rattle.commands.proofs.put_pairs.Given as goal
 
 abbrev pub invariant-loop-k : goal.invariant-loop-k
-invariant-loop-k l = (l.k ≤ l.pairs) × (l.out ≡ sets l.initial.out l.start (characters_of (fill_pairs l.k))) × (length l.out ≡ length l.initial.out)
-
-abbrev pub decreases-loop-k : goal.decreases-loop-k
-decreases-loop-k l = l.pairs - l.k
+invariant-loop-k l = (l.out ≡ sets l.initial.out l.start (characters_of (fill_pairs l.k))) × (length l.out ≡ length l.initial.out)

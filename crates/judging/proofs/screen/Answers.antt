@@ -5,7 +5,7 @@ use borrow.Author.Tests.{le-leb, lt-leb, eq-eqb, ne_eqb}
 use lib.ListN.{length}
 use Rattle.questions.specs.Shape.{shape_of}
 use Rattle.questions.specs.declared.question.Shape.{Shape}
-use Rattle.contents.proofs.Asked.{was_so, was_not}
+use Rattle.contents.proofs.Tests.{was_so, was_not}
 use Rattle.judging.specs.Judge.{screen_rows, screen_of}
 use Rattle.judging.proofs.screen.Goals as goal
 

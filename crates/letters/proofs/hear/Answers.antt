@@ -1,20 +1,28 @@
 -- `hear` meets its contract: a good write starts anew, a reading with no values leaves all as it stands, and values decide.
-use mathlib.Core.Path.{◌≡◌, refl, sym, ◌∙◌}
+use mathlib.Core.Path.{◌≡◌, refl, sym, ap, ◌∙◌}
+use mathlib.Core.Bool.{false}
 use mathlib.Core.List.{List}
 use Prim.Native.Nat.{ℕ}
+use Rattle.std.specs.Prelude.{Result, Ok}
 use Rattle.questions.specs.declared.question.Question.{Question}
-use Rattle.readings.specs.declared.Reading.{Reading}
-use Rattle.readings.specs.declared.Reading.TheVariants.{Counted, Written, Values, Refused}
-use Rattle.letters.specs.Letters.{by_reading, hear_of}
+use Rattle.readings.specs.declared.Refusal.{Refusal}
+use Rattle.readings.specs.declared.Taken.{Taken}
+use Rattle.readings.specs.declared.Taken.TheVariants.{Counted, Written, Values}
+use Rattle.letters.specs.Letters.{is_good_write, by_reading, hear_of}
 use Rattle.letters.specs.declared.Standing.{Standing}
 use Rattle.letters.proofs.hear.Goals as goal
 
--- a reading with no values leaves the letters as they stand
-stays : (s : Standing) (q : Question) (r : Reading) (values : List ℕ) → ((m : ℕ) → r ≡ Values m → ⊥) → s ≡ by_reading s q r values
+-- where no good write is asked, what is taken decides
+by_taken : (s : Standing) (q : Question) (mask : ℕ) (r : Result Taken Refusal) (taken : Taken) (values : List ℕ) → is_good_write q ≡ false → r ≡ Ok taken
+    → by_reading s q (Ok taken) values ≡ hear_of s q mask r values
+unfolding hear_of
+by_taken s q mask r taken values other said = simp (other, said)
+
+-- what is taken with no values leaves the letters as they stand
+stays : (s : Standing) (q : Question) (taken : Taken) (values : List ℕ) → ((m : ℕ) → taken ≡ Values m → ⊥) → s ≡ by_reading s q (Ok taken) values
 stays s q (Counted n) values h = refl
 stays s q Written values h = refl
 stays s q (Values m) values h = absurd (h m refl)
-stays s q (Refused why) values h = refl
 
 pub returns-then-is_good_write : goal.returns-then-is_good_write
 unfolding hear_of
@@ -22,15 +30,16 @@ returns-then-is_good_write c = simp (sym c.is_good_write.ensures ∙ c.if-is_goo
 
 pub returns-in_default : goal.returns-in_default
 unfolding hear_of
-returns-in_default c =
+returns-in_default c = simp (sym c.is_good_write.ensures ∙ c.if-is_good_write.false, c.in_default.is)
+
+pub returns-in_default-taken : goal.returns-in_default-taken
+returns-in_default-taken c =
     let a = c.args in
-    simp (sym c.is_good_write.ensures ∙ c.if-is_good_write.false) (stays a.standing a.q a.reading a.values.now c.in_default.not-Values)
+    stays a.standing a.q c.in-Ok.taken a.values.now c.in_default-taken.not-Values
+    ∙ by_taken a.standing a.q a.mask a.reading c.in-Ok.taken a.values.now (sym c.is_good_write.ensures ∙ c.if-is_good_write.false) c.in-Ok.is
 
 pub returns : goal.returns
-unfolding hear_of
 returns c =
-    simp (
-      sym c.is_good_write.ensures ∙ c.if-is_good_write.false,
-      c.in-Values.is,
-    )
-    c.decide.ensures
+    let a = c.args in
+    c.decide.ensures ∙ sym (ap (λ (t : Taken). by_reading a.standing a.q (Ok t) a.values.now) c.in-Values.is)
+    ∙ by_taken a.standing a.q a.mask a.reading c.in-Ok.taken a.values.now (sym c.is_good_write.ensures ∙ c.if-is_good_write.false) c.in-Ok.is

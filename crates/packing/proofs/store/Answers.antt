@@ -1,5 +1,5 @@
 -- `store` meets its contract: the loop keeps the bytes so far in their places, and what lies beyond the end is not stored.
-use mathlib.Core.Path.{refl, sym, ap, ◌∙◌}
+use mathlib.Core.Path.{sym, ap, ◌∙◌}
 use mathlib.Core.List.{List}
 use Prim.Native.Nat.{ℕ, ◌+◌}
 use native.Mathlib.Omega.{arith}
@@ -10,33 +10,18 @@ use Rattle.packing.proofs.store.Goals as goal
 pub returns-then-out-at : goal.returns-then-out-at
 returns-then-out-at c = let a = c.args in sym (all_beyond a.out.now a.at a.bytes.now c.if-out-at.true)
 
-pub loop-i-init : goal.loop-i-init
-loop-i-init c = (omega arith, refl, refl)
-
-pub bounds-bytes-i : goal.bounds-bytes-i
-bounds-bytes-i c = omega (arith, c.least-fitting.ensures)
-
-pub overflow_add-out : goal.overflow_add-out
-overflow_add-out c = omega (arith, c.least-fitting.ensures, c.well_formed.0)
-
-pub bounds-out-at : goal.bounds-out-at
-bounds-out-at c = omega (arith, c.least-fitting.ensures, c.loop-i.invariant.1)
-
 pub loop-i-preserved : goal.loop-i-preserved
 loop-i-preserved c =
     let at = c.loop-i in
     let a = c.args in
     let byte = get_or a.bytes.now at.i 0 in (
-      omega (arith, c.least-fitting.ensures),
+      omega (arith, c.min-fitting.ensures),
       length-set at.out (a.at + at.i) byte ∙ at.invariant.1,
-      ap (λ (l : List ℕ). set l (a.at + at.i) byte) at.invariant.2 ∙ stored_next a.out.now a.at a.bytes.now at.i (omega (arith, c.least-fitting.ensures)),
+      ap (λ (l : List ℕ). set l (a.at + at.i) byte) at.invariant.2 ∙ stored_next a.out.now a.at a.bytes.now at.i (omega (arith, c.min-fitting.ensures)),
     )
-
-pub shape_of-out : goal.shape_of-out
-shape_of-out c = c.loop-i.invariant.1
 
 pub returns : goal.returns
 returns c =
     let at = c.loop-i in
     let a = c.args in
-    at.invariant.2 ∙ stored_all a.out.now a.at a.bytes.now at.i at.invariant.0 (omega (arith, c.least-fitting.ensures, c.loop-i-test.false))
+    at.invariant.2 ∙ stored_all a.out.now a.at a.bytes.now at.i at.invariant.0 (omega (arith, c.min-fitting.ensures, c.loop-i-test.false))

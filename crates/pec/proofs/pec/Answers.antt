@@ -1,22 +1,23 @@
 -- `pec` meets its contract: four bytes brought on and the bytes still to come always have the whole list's PEC.
-use mathlib.Core.Path.{refl, ap, ap₂, ◌∙◌}
+use mathlib.Core.Path.{refl, ap₂, ◌∙◌}
 use mathlib.Core.List.{List, [], ◌∷◌}
-use Prim.Native.Nat.{ℕ, ◌+◌, ◌≤◌}
+use Prim.Native.Nat.{ℕ, ◌+◌, ◌-◌, ◌≤◌}
 use native.Mathlib.Omega.{arith}
 use lib.Bits.{bit_xor}
-use lib.ListN.{length, get_or, drop}
+use lib.ListN.{length, get_or, drop, length-drop}
+use lib.Seq.{take_all}
 use Rattle.remainder.specs.Register.{run}
 use Rattle.pec.specs.Pec.{byte_step, pec_of}
 use Rattle.pec.specs.Moved.{moved}
 use Rattle.pec.proofs.Fours.{first_four, next_four}
 use Rattle.pec.proofs.pec.Goals as goal
 
-pub take_in_from-requires : goal.take_in_from-requires
-take_in_from-requires c = c.remainders-remainders.ensures
+pub take_in_all-requires : goal.take_in_all-requires
+take_in_all-requires c = c.remainders-remainders.ensures
 
 pub returns-then-bytes-lt4 : goal.returns-then-bytes-lt4
 unfolding pec_of
-returns-then-bytes-lt4 c = c.take_in_from.ensures
+returns-then-bytes-lt4 c = c.take_in_all.ensures
 
 pub loop-i-init : goal.loop-i-init
 loop-i-init c = (omega arith, first_four c.args.bytes.now c.if-bytes-lt4.false)
@@ -47,14 +48,15 @@ loop-i-preserved c =
           ∙ at.invariant.1,
     )
 
-pub take_in_from-folded-requires : goal.take_in_from-folded-requires
-take_in_from-folded-requires c = c.remainders-remainders.ensures
+pub take_in_all-folded-requires : goal.take_in_all-folded-requires
+take_in_all-folded-requires c = c.remainders-remainders.ensures
 
-pub take_in_from-requires-2 : goal.take_in_from-requires-2
-take_in_from-requires-2 c = c.remainders-remainders.ensures
+pub take_in_all-requires-2 : goal.take_in_all-requires-2
+take_in_all-requires-2 c = c.remainders-remainders.ensures
 
 pub returns : goal.returns
 returns c =
     let l = c.args.bytes.now in
     let at = c.loop-i in
-    c.take_in_from-2.ensures ∙ ap (λ (s : ℕ). run byte_step s (drop at.i l)) c.take_in_from-folded.ensures ∙ at.invariant.1
+    c.take_in_all-2.ensures
+    ∙ ap₂ (λ (s : ℕ) (rest : List ℕ). run byte_step s rest) c.take_in_all-folded.ensures (take_all (length l - at.i) (drop at.i l) (omega (arith, length-drop at.i l))) ∙ at.invariant.1

@@ -7,4 +7,4 @@ use Rattle.reasons.proofs.at_word.Goals as goal
 pub returns : goal.returns
 returns c =
     let a = c.args in
-    ap (λ (w : ℕ). found a.why (Word a.i) w a.right) c.word_or_zero.ensures
+    ap (λ (w : ℕ). found a.why (Word a.i) w a.right) c.element_or.ensures

@@ -1,5 +1,5 @@
 -- `echo_place` meets its contract: at each `return` the bytes before are as asked.
-use Rattle.contents.proofs.Asked.{was_so, was_not}
+use Rattle.contents.proofs.Tests.{was_so, was_not}
 use Rattle.reasons.proofs.echo_place.Goals as goal
 
 pub returns-then-not-is_as_asked : goal.returns-then-not-is_as_asked

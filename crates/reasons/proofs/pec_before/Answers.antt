@@ -26,17 +26,17 @@ module _ (line : List ℕ) where
   none_left i end crc past = let none : end - i ≡ 0 = omega arith in ap (λ (n : ℕ). run byte_step crc (tabulated (byte_at line) n i)) none
 
 pub loop-i-init : goal.loop-i-init
-loop-i-init c = (omega arith, all_left c.args.line.now c.args.end)
+loop-i-init c = all_left c.args.line.now c.args.end
 
 pub loop-i-preserved : goal.loop-i-preserved
 loop-i-preserved c =
     let a = c.args in
     let at = c.loop-i in
     let byte = ap (byte_step at.crc) c.byte_at.ensures in
-    (omega arith, one_taken a.line.now at.i a.end at.crc c.step-crc.result c.loop-i-test.true (c.step-crc.ensures ∙ byte) ∙ at.invariant.1)
+    one_taken a.line.now at.i a.end at.crc c.step-crc.result c.loop-i-test.true (c.step-crc.ensures ∙ byte) ∙ at.invariant
 
 pub returns : goal.returns
 returns c =
     let a = c.args in
     let at = c.loop-i in
-    sym (none_left a.line.now at.i a.end at.crc c.loop-i-test.false) ∙ at.invariant.1
+    sym (none_left a.line.now at.i a.end at.crc c.loop-i-test.false) ∙ at.invariant

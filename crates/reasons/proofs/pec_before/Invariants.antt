@@ -1,5 +1,5 @@
 -- `pec_before` meets its contract: what is left to take in, taken in from here, gives the PEC of them all.
-use Rattle.std.proofs.Common.{◌≡◌, ℕ, ◌-◌, ◌≤◌, List}
+use Rattle.std.proofs.Common.{◌≡◌, ℕ, ◌-◌, List}
 use Rattle.ground.specs.Sweep.{tabulated}
 use Rattle.remainder.specs.Register.{run}
 use Rattle.pec.specs.Pec.{byte_step, pec_of}
@@ -11,7 +11,4 @@ unfoldable pub left : List ℕ → (i n crc : ℕ) → ℕ
 left line i n crc = run byte_step crc (tabulated (byte_at line) n i)
 
 abbrev pub invariant-loop-i : goal.invariant-loop-i
-invariant-loop-i l = (l.i ≤ l.end) × (left l.line l.i (l.end - l.i) l.crc ≡ pec_of (tabulated (byte_at l.line) l.end 0))
-
-abbrev pub decreases-loop-i : goal.decreases-loop-i
-decreases-loop-i l = l.end - l.i
+invariant-loop-i l = left l.line l.i (l.end - l.i) l.crc ≡ pec_of (tabulated (byte_at l.line) l.end 0)

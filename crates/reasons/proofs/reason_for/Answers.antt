@@ -1,9 +1,11 @@
 -- `reason_for` meets its contract: each arm is the row of its refusal.
+use mathlib.Core.Logic.{⊎_elim}
+use Rattle.std.specs.Prelude.{None}
 use Rattle.std.proofs.Common.{◌≡◌, ℕ, List, sym, refl, ap, ◌∙◌}
 use Rattle.questions.specs.declared.question.Question.{Question}
 use Rattle.readings.specs.declared.Refusal.{Refusal}
+use Rattle.readings.specs.declared.Refusal.TheVariants as row
 use Rattle.reasons.specs.Reason.{bad_field, at_field, at_line, at_byte, at_ends, at_echo, at_pec, at_alive, at_check, because_of}
-use Rattle.reasons.specs.declared.Right.TheVariants.{Several}
 use Rattle.reasons.specs.declared.Because.{Because}
 use Rattle.reasons.proofs.reason_for.Goals as goal
 
@@ -19,27 +21,13 @@ returns-in-Question c =
 pub returns-in-Room : goal.returns-in-Room
 returns-in-Room c =
     let a = c.args in
-    c.at_line.ensures ∙ by_row a.q a.line.now (at_line a.q a.line.now) c.in-Room.is refl
-
-pub returns-in-Length : goal.returns-in-Length
-returns-in-Length c =
-    let a = c.args in
-    c.at_line-in-Length.ensures ∙ by_row a.q a.line.now (at_line a.q a.line.now) c.in-Length.is refl
-
-pub returns-in-Character : goal.returns-in-Character
-returns-in-Character c =
-    let a = c.args in
-    c.at_word.ensures ∙ sym (ap (because_of a.q a.line.now) c.in-Character.is)
+    c.at_line.ensures ∙ ⊎_elim (λ (is : a.why ≡ row.Room). by_row a.q a.line.now (at_line a.q a.line.now) is refl)
+    (λ (is : a.why ≡ row.Length). by_row a.q a.line.now (at_line a.q a.line.now) is refl) c.in-Room.is
 
 pub returns-in-Frame : goal.returns-in-Frame
 returns-in-Frame c =
     let a = c.args in
     c.at_ends.ensures ∙ by_row a.q a.line.now (λ w. at_ends a.line.now) c.in-Frame.is refl
-
-pub returns-in-Manchester : goal.returns-in-Manchester
-returns-in-Manchester c =
-    let a = c.args in
-    c.at_word-in-Manchester.ensures ∙ sym (ap (because_of a.q a.line.now) c.in-Manchester.is)
 
 pub returns-in-Echo : goal.returns-in-Echo
 returns-in-Echo c =
@@ -64,4 +52,4 @@ returns-in-Check c =
 pub returns-in-Count : goal.returns-in-Count
 returns-in-Count c =
     let a = c.args in
-    c.at_byte.ensures ∙ by_row a.q a.line.now (λ w. at_byte a.line.now w 2 Several) c.in-Count.is refl
+    c.at_byte.ensures ∙ by_row a.q a.line.now (λ w. at_byte a.line.now w 2 None) c.in-Count.is refl

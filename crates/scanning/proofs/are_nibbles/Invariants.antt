@@ -9,6 +9,3 @@ use Rattle.scanning.proofs.are_nibbles.Given as goal
 
 abbrev pub invariant-loop-i : goal.invariant-loop-i
 invariant-loop-i l = unmarked is_nibble l.line l.bad l.i l.to ≡ is_nowhere (failing_along is_nibble l.line l.from (l.to - l.from))
-
-abbrev pub decreases-loop-i : goal.decreases-loop-i
-decreases-loop-i l = l.to - l.i

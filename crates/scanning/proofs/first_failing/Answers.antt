@@ -1,35 +1,17 @@
--- `first_failing` meets its contract: what is left from here always answers as the whole does.
-use mathlib.Core.Path.{refl, sym, ◌∙◌}
-use native.Mathlib.Omega.{arith}
-use Rattle.scanning.specs.Along.{test_of}
-use Rattle.scanning.proofs.FirstPlace.{scan_on, scan_here, scan_done}
+-- `first_failing` meets its contract: what `find` passed over has passed, and what it found has not.
+use mathlib.Core.Path.{◌≡◌}
+use mathlib.Core.Bool.{true, false}
+use lib.ListN.{get_or}
+use Rattle.std.proofs.Common.{rules, tests}
+use Rattle.std.proofs.lemmas.Iterator.{first_from_Range}
+use Rattle.scanning.proofs.FirstPlace.{found_first}
 use Rattle.scanning.proofs.first_failing.Goals as goal
 
-pub loop-i-init : goal.loop-i-init
-loop-i-init c = refl
-
-pub offset_bounds-line-i : goal.offset_bounds-line-i
-offset_bounds-line-i c = omega (arith, c.requires)
-
-pub bounds-line-i : goal.bounds-line-i
-bounds-line-i c = omega (arith, c.requires)
-
-pub returns-then-not-passes : goal.returns-then-not-passes
-returns-then-not-passes c =
-    let a = c.args in
-    let at = c.loop-i in
-    let fails = sym c.passes.ensures ∙ c.if-not-passes.true in
-    sym (scan_here (test_of a.row) a.line.now at.i a.to c.loop-i-test.true fails) ∙ at.invariant
-
-pub loop-i-preserved : goal.loop-i-preserved
-loop-i-preserved c =
-    let a = c.args in
-    let at = c.loop-i in
-    let goes_on = sym c.passes.ensures ∙ c.if-not-passes.false in
-    sym (scan_on (test_of a.row) a.line.now at.i a.to c.loop-i-test.true goes_on) ∙ at.invariant
-
 pub returns : goal.returns
-returns c =
+returns g c = λ test tells.
     let a = c.args in
-    let at = c.loop-i in
-    sym (scan_done (test_of a.row) a.line.now at.i a.to c.loop-i-test.false) ∙ at.invariant
+    let l = a.line.now in
+    found_first test l a.from a.to c.find.result
+    (first_from_Range _ _ _ _ (λ i. test (get_or l i 0) ≡ false) (λ i. test (get_or l i 0) ≡ true) c.find.ensures.ran
+    (λ x q k. search (rules, tests, tells (get_or l x 0) false (c.type_inv.line x).fits))
+    (λ x q k. (search rules, search (rules, tests, tells (get_or l x 0) true (c.type_inv.line x).fits))))

@@ -20,5 +20,5 @@ returns c =
     let l = c.args.line.now in
     let over = c.pass_nibbles-from.ensures in
     let between : length l - 1 - 1 ≡ length l - 2 = omega arith in
-    c.first_failing.ensures ∙ skipped is_nibble l 1 c.pass_nibbles-from.result (length l - 1) over.0 over.1 over.2
+    c.first_failing.ensures is_nibble (λ w r h e. e) ∙ skipped is_nibble l 1 c.pass_nibbles-from.result (length l - 1) over.0 over.1 over.2
     ∙ ap (failing_along is_nibble l 1) between ∙ sym (nibbles_along l)

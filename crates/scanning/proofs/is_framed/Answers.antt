@@ -1,4 +1,4 @@
--- `is_framed` meets its contract: each `return` says which end decided.
+-- `is_framed` meets its contract: the two ends decide, and a line of no words has none.
 use mathlib.Core.Path.{◌≡◌, refl, sym, ap, ◌∙◌}
 use mathlib.Core.Bool.{Bool, false, ◌&&◌}
 use mathlib.Core.List.{List, [], ◌∷◌}
@@ -7,7 +7,7 @@ use native.Mathlib.Omega.{arith}
 use lib.Dec.{eqb}
 use lib.ListN.{length, get_or}
 use Rattle.characters.specs.Character.{preamble, stop}
-use borrow.Author.Tests.{eq-eqb, ne_eqb}
+use borrow.Author.Tests.{eq-eqb, eqb-true, ne_eqb}
 use Rattle.scanning.specs.Frame.{framed}
 use Rattle.scanning.proofs.Ends.{framed_ends}
 use Rattle.scanning.proofs.is_framed.Goals as goal
@@ -18,14 +18,14 @@ unfolding framed
 unframed [] e = refl
 unframed (w ∷ l) e = absurd (omega arith)
 
-pub returns-then-line-eq0 : goal.returns-then-line-eq0
-returns-then-line-eq0 c = unframed c.args.line.now c.if-line-eq0.true
+pub returns-then-is_empty : goal.returns-then-is_empty
+returns-then-is_empty c = unframed c.args.line.now (eqb-true _ 0 (sym c.is_empty.ensures ∙ c.if-is_empty.true))
 
-pub returns-then-line-ne-PREAMBLE : goal.returns-then-line-ne-PREAMBLE
+pub returns-else-line-eq-PREAMBLE : goal.returns-else-line-eq-PREAMBLE
 unfolding framed
-returns-then-line-ne-PREAMBLE c = simp (ne_eqb _ _ c.if-line-ne-PREAMBLE.true)
+returns-else-line-eq-PREAMBLE c = simp (ne_eqb _ _ c.if-line-eq-PREAMBLE.false)
 
-pub returns : goal.returns
-returns c =
+pub returns-then-line-eq-PREAMBLE : goal.returns-then-line-eq-PREAMBLE
+returns-then-line-eq-PREAMBLE c =
     let l = c.args.line.now in
-    sym (framed_ends l ∙ ap (λ (t : Bool). t && eqb (get_or l (length l - 1) 0) stop) (eq-eqb (get_or l 0 0) preamble c.if-line-ne-PREAMBLE.false))
+    sym (framed_ends l ∙ ap (λ (t : Bool). t && eqb (get_or l (length l - 1) 0) stop) (eq-eqb (get_or l 0 0) preamble c.if-line-eq-PREAMBLE.true))

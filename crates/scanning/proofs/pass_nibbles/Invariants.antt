@@ -3,11 +3,11 @@ use mathlib.Core.Path.{◌≡◌}
 use Prim.Native.Nat.{◌-◌, ◌≤◌}
 use Rattle.characters.specs.Nibble.{is_nibble}
 use Rattle.scanning.specs.Along.{failing_along}
-use Rattle.scanning.specs.declared.Place.TheVariants.{Nowhere}
+use Rattle.std.specs.Prelude.{None}
 use Rattle.scanning.proofs.pass_nibbles.Given as goal
 
 abbrev pub invariant-loop-i : goal.invariant-loop-i
-invariant-loop-i l = (l.from ≤ l.i) × (l.i ≤ l.to) × (failing_along is_nibble l.line l.from (l.i - l.from) ≡ Nowhere)
+invariant-loop-i l = (l.from ≤ l.i) × (l.i ≤ l.to) × (failing_along is_nibble l.line l.from (l.i - l.from) ≡ None)
 
 abbrev pub decreases-loop-i : goal.decreases-loop-i
 decreases-loop-i l = l.to - l.i

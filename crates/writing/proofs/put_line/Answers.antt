@@ -1,5 +1,5 @@
 -- `put_line` meets its contract: the loop keeps the characters of the bytes passed stored behind the preamble, and all else as it was.
-use mathlib.Core.Path.{◌≡◌, refl, ap, ap₂, ◌∙◌}
+use mathlib.Core.Path.{refl, ap, ◌∙◌}
 use mathlib.Core.List.{List}
 use Prim.Native.Nat.{ℕ, ◌+◌, ◌*◌}
 use native.Mathlib.Omega.{arith}
@@ -36,11 +36,11 @@ loop-i-preserved c =
       c.put_byte.auto.out ∙ at.invariant.2,
     )
 
-pub offset_bounds-out-i : goal.offset_bounds-out-i
-offset_bounds-out-i c = omega (arith, length-set c.args.out.now 0 preamble)
+pub offset_bounds-out-end : goal.offset_bounds-out-end
+offset_bounds-out-end c = omega (arith, length-set c.args.out.now 0 preamble)
 
-pub bounds-out-i : goal.bounds-out-i
-bounds-out-i c = omega (arith, length-set c.args.out.now 0 preamble)
+pub bounds-out-end : goal.bounds-out-end
+bounds-out-end c = omega (arith, length-set c.args.out.now 0 preamble)
 
 pub shape_of-out : goal.shape_of-out
 shape_of-out c = simp length-set (c.loop-i.invariant.2 ∙ simp length-set)
@@ -49,9 +49,8 @@ pub returns : goal.returns
 returns c =
     let a = c.args in
     let at = c.loop-i in
-    let all : at.i ≡ length a.bytes.now = omega arith in
     let first = set a.out.now 0 preamble in
-    written a.bytes.now a.out.now _ _ (omega arith) (ap (λ (k : ℕ). 2 * k + 2) all)
-    (ap₂ (λ (words : List ℕ) (k : ℕ). set words (2 * k + 1) stop)
-    (at.invariant.1 ∙ ap (λ (l : List ℕ). sets first 1 (characters_of l)) (take_all at.i a.bytes.now (omega arith))) all
+    written a.bytes.now a.out.now _ _ (omega arith) (omega arith)
+    (ap (λ (words : List ℕ). set words (2 * length a.bytes.now + 1) stop)
+    (at.invariant.1 ∙ ap (λ (l : List ℕ). sets first 1 (characters_of l)) (take_all at.i a.bytes.now (omega arith)))
     ∙ stored_all a.bytes.now a.out.now (omega arith))

@@ -5,7 +5,7 @@ use Rattle.certificate.proofs.Telling.{Going}
 use Rattle.certificate.proofs.entries.tell.Given as goal
 
 abbrev pub invariant-loop-told : goal.invariant-loop-told
-invariant-loop-told l = Going l.header l.file l.numbers l.told
+invariant-loop-told l = Going l.job.header l.job.file.now l.numbers l.told
 
 abbrev pub decreases-loop-told : goal.decreases-loop-told
-decreases-loop-told l = length l.file - l.told.at
+decreases-loop-told l = length l.job.file.now - l.told.at

@@ -15,19 +15,19 @@ use Rattle.certificate.proofs.entries.tell_entry.Goals as goal
 pub overflow_add-result : goal.overflow_add-result
 overflow_add-result c =
     let a = c.args in
-    let file = a.file.now in
+    let file = a.job.file.now in
     let at = a.told.at in
-    let is = first_good a.header file at c.requires.0 c.requires.1 in
-    let heard = c.listen-heard.ensures ∙ ap (λ (l : List ℕ). listen_of a.header l a.told.standing) (part_to_end file at) ∙ good_heard a.header (drop at file) a.told.standing is in
-    omega (arith, ap (λ (x : Listened). x.size) heard, entry_within a.header file at is)
+    let is = first_good a.job.header file at c.requires.0 c.requires.1 in
+    let heard = c.listen-heard.ensures ∙ ap (λ (l : List ℕ). listen_of a.job.header l a.told.standing) (part_to_end file at) ∙ good_heard a.job.header (drop at file) a.told.standing is in
+    omega (arith, ap (λ (x : Listened). x.size) heard, entry_within a.job.header file at is)
 
 pub returns : goal.returns
 returns c =
     let a = c.args in
-    let file = a.file.now in
+    let file = a.job.file.now in
     let at = a.told.at in
-    let is = first_good a.header file at c.requires.0 c.requires.1 in
-    let heard = c.listen-heard.ensures ∙ ap (λ (l : List ℕ). listen_of a.header l a.told.standing) (part_to_end file at) ∙ good_heard a.header (drop at file) a.told.standing is in
+    let is = first_good a.job.header file at c.requires.0 c.requires.1 in
+    let heard = c.listen-heard.ensures ∙ ap (λ (l : List ℕ). listen_of a.job.header l a.told.standing) (part_to_end file at) ∙ good_heard a.job.header (drop at file) a.told.standing is in
     record {
       at = ap (λ (x : Listened). at + x.size) heard;
       entries = refl;

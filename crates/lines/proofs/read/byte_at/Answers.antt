@@ -18,4 +18,4 @@ returns-then-line-i c =
 
 pub returns : goal.returns
 unfolding byte_at
-returns c = c.two_nibbles.ensures ∙ ap₂ (λ (x y : ℕ). true_bits x + 16 * true_bits y) c.word_or_zero-low.ensures c.word_or_zero-high.ensures
+returns c = c.two_nibbles.ensures ∙ ap₂ (λ (x y : ℕ). true_bits x + 16 * true_bits y) c.element_or-low.ensures c.element_or-high.ensures

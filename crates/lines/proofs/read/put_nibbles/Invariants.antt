@@ -1,6 +1,6 @@
 -- `put_nibbles` meets its contract: the loop keeps the places passed at their words' nibbles, and passes them all.
 use mathlib.Core.Path.{◌≡◌}
-use Prim.Native.Nat.{◌-◌, ◌≤◌}
+use Prim.Native.Nat.{◌≤◌}
 use lib.ListN.{length}
 use lib.Seq.{sets}
 use Rattle.ground.specs.Sweep.{tabulated}
@@ -9,6 +9,3 @@ use Rattle.lines.proofs.read.put_nibbles.Given as goal
 
 abbrev pub invariant-loop-k : goal.invariant-loop-k
 invariant-loop-k l = (l.k ≤ length l.words) × (l.out ≡ sets l.initial.out 0 (tabulated (nibble_in l.words) l.k 0)) × (length l.out ≡ length l.initial.out)
-
-abbrev pub decreases-loop-k : goal.decreases-loop-k
-decreases-loop-k l = length l.words - l.k

@@ -16,13 +16,13 @@ use Rattle.lines.proofs.read.read_bytes.Goals as goal
 pub loop-k-init : goal.loop-k-init
 loop-k-init c =
     let a = c.args in
-    (c.least-many.ensures ∙ ap (λ (n : ℕ). min n (length a.out.now)) (c.byte_count.ensures ∙ length_bytes a.line.now), omega arith, refl, refl)
+    (c.min-many.ensures ∙ ap (λ (n : ℕ). min n (length a.out.now)) (c.byte_count.ensures ∙ length_bytes a.line.now), omega arith, refl, refl)
 
 pub slice_bounds-read_part-end : goal.slice_bounds-read_part-end
 slice_bounds-read_part-end c =
     let a = c.args in
     let at = c.loop-k in
-    omega (arith, (within (length a.out.now) (length a.line.now) c.least-many.result at.k c.least-part.result at.invariant.0 c.loop-k-test.true c.least-part.ensures).3)
+    omega (arith, (within (length a.out.now) (length a.line.now) c.min-many.result at.k c.min-part.result at.invariant.0 c.loop-k-test.true c.min-part.ensures).3)
 
 pub offset_bounds-line-start : goal.offset_bounds-line-start
 offset_bounds-line-start c = record { fits = omega (arith, slice_bounds-read_part-end c, c.well_formed.0.1) }
@@ -43,28 +43,28 @@ pub slice_bounds-read_part-end-in-loop-k : goal.slice_bounds-read_part-end-in-lo
 slice_bounds-read_part-end-in-loop-k c =
     let a = c.args in
     let at = c.loop-k in
-    let part = c.least-part in
+    let part = c.min-part in
     subst⁻¹ (λ (n : ℕ). at.k + part.result ≤ n) at.invariant.3
-    (within (length a.out.now) (length a.line.now) c.least-many.result at.k part.result at.invariant.0 c.loop-k-test.true part.ensures).2
+    (within (length a.out.now) (length a.line.now) c.min-many.result at.k part.result at.invariant.0 c.loop-k-test.true part.ensures).2
 
 pub read_part-requires : goal.read_part-requires
 read_part-requires c =
-    (omega arith, omega (arith, c.least-part.ensures))
+    (omega arith, omega (arith, c.min-part.ensures))
 
 pub loop-k-smaller : goal.loop-k-smaller
 loop-k-smaller c =
     let a = c.args in
     let at = c.loop-k in
-    let many = c.least-many.result in
-    let part = c.least-part in
+    let many = c.min-many.result in
+    let part = c.min-part in
     (within (length a.out.now) (length a.line.now) many at.k part.result at.invariant.0 c.loop-k-test.true part.ensures).0
 
 pub loop-k-preserved : goal.loop-k-preserved
 loop-k-preserved c =
     let a = c.args in
     let at = c.loop-k in
-    let many = c.least-many.result in
-    let part = c.least-part in
+    let many = c.min-many.result in
+    let part = c.min-part in
     let end : at.k + part.result ≤ length at.out = subst⁻¹ (λ (n : ℕ). at.k + part.result ≤ n) at.invariant.3
     (within (length a.out.now) (length a.line.now) many at.k part.result at.invariant.0 c.loop-k-test.true part.ensures).2 in
     let start = 1 + 2 * at.k in

@@ -25,7 +25,7 @@ returns-then-not-take_up c =
     let test = acts_by a.n a.device a.registers.now line q c.hear-q.ensures m c.carried_by-m.ensures place can in
     let refused : is_met q a.device m line ≡ false = sym up.ensures.says ∙ c.if-not-take_up.true in
     not_acting a.n a.device a.registers.now line up.new.line (sym test ∙ refused)
-    (up.ensures.leaves ∙ ap (λ (t : Bool). cond t (out_of (handed_bytes q a.device c.word_or_zero-own.result m line) line) line) refused)
+    (up.ensures.leaves ∙ ap (λ (t : Bool). cond t (out_of (handed_bytes q a.device c.element_or-own.result m line) line) line) refused)
 
 pub returns : goal.returns
 returns c =
@@ -39,6 +39,6 @@ returns c =
     let test = acts_by a.n a.device a.registers.now line q c.hear-q.ensures m c.carried_by-m.ensures place can in
     let taken : is_met q a.device m line ≡ true = sym up.ensures.says ∙ c.if-not-take_up.false in
     passed_by a.n a.device a.registers.now line q c.hear-q.ensures m c.carried_by-m.ensures place can
-    c.word_or_zero-own.result up.new.line c.change_asked.result c.word_or_zero-own.ensures (sym test ∙ taken)
-    (up.ensures.leaves ∙ ap (λ (t : Bool). cond t (out_of (handed_bytes q a.device c.word_or_zero-own.result m line) line) line) taken)
+    c.element_or-own.result up.new.line c.change_asked.result c.element_or-own.ensures (sym test ∙ taken)
+    (up.ensures.leaves ∙ ap (λ (t : Bool). cond t (out_of (handed_bytes q a.device c.element_or-own.result m line) line) line) taken)
     c.change_asked.ensures

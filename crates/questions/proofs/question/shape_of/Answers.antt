@@ -1,26 +1,24 @@
 -- `shape_of` meets its contract: each arm is the entry of its kind.
-use mathlib.Core.Path.{sym, ap}
-use Prim.Native.Nat.{ℕ}
-use Rattle.questions.specs.Shape.{shape_at, shape_of}
-use Rattle.questions.proofs.ByKind.{last_kind}
+use Rattle.questions.specs.Shape.{shape_of}
+use Rattle.questions.proofs.ByKind.{asked}
 use Rattle.questions.proofs.question.shape_of.Goals as goal
 
-pub returns-in-0 : goal.returns-in-0
+pub returns-in-HelloAll : goal.returns-in-HelloAll
 unfolding shape_of
-returns-in-0 c = sym (ap (λ (k : ℕ). shape_at k c.args.q) c.in-0.is)
+returns-in-HelloAll c = asked c.args.q.kind _ _ _ _ _ c.asks.ensures c.in-HelloAll.is
 
-pub returns-in-1 : goal.returns-in-1
+pub returns-in-WriteAll : goal.returns-in-WriteAll
 unfolding shape_of
-returns-in-1 c = sym (ap (λ (k : ℕ). shape_at k c.args.q) c.in-1.is)
+returns-in-WriteAll c = asked c.args.q.kind _ _ _ _ _ c.asks.ensures c.in-WriteAll.is
 
-pub returns-in-2 : goal.returns-in-2
+pub returns-in-WriteDevice : goal.returns-in-WriteDevice
 unfolding shape_of
-returns-in-2 c = sym (ap (λ (k : ℕ). shape_at k c.args.q) c.in-2.is)
+returns-in-WriteDevice c = asked c.args.q.kind _ _ _ _ _ c.asks.ensures c.in-WriteDevice.is
 
-pub returns-in-3 : goal.returns-in-3
+pub returns-in-ReadAll : goal.returns-in-ReadAll
 unfolding shape_of
-returns-in-3 c = sym (ap (λ (k : ℕ). shape_at k c.args.q) c.in-3.is)
+returns-in-ReadAll c = asked c.args.q.kind _ _ _ _ _ c.asks.ensures c.in-ReadAll.is
 
-pub returns-in_default : goal.returns-in_default
+pub returns-in-ReadDevice : goal.returns-in-ReadDevice
 unfolding shape_of
-returns-in_default c = sym (last_kind c.args.q.kind _ _ _ _ _ c.in_default.in_default-own.rest.0.0.0.1 c.in_default.in_default-own.rest.0.0.1 c.in_default.in_default-own.rest.0.1 c.in_default.in_default-own.rest.1)
+returns-in-ReadDevice c = asked c.args.q.kind _ _ _ _ _ c.asks.ensures c.in-ReadDevice.is

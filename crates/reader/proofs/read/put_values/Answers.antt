@@ -12,21 +12,20 @@ use Rattle.reader.proofs.Values.{values_number}
 use Rattle.reader.proofs.read.put_values.Goals as goal
 
 pub loop-k-init : goal.loop-k-init
-loop-k-init c = (omega arith, refl, refl)
+loop-k-init c = (refl, refl)
 
 pub loop-k-preserved : goal.loop-k-preserved
 loop-k-preserved c =
     let a = c.args in
     let at = c.loop-k in
     let f : ℕ → ℕ = λ i. get_or (values_in a.bytes.now a.m) i 0 in (
-      omega arith,
-      ap (set at.out at.k) c.value_in.ensures ∙ ap (λ (l : List ℕ). set l at.k (f at.k)) at.invariant.1
+      ap (set at.out at.k) c.value_in.ensures ∙ ap (λ (l : List ℕ). set l at.k (f at.k)) at.invariant.0
           ∙ filled_next f a.out.now at.k,
-      length-set at.out at.k c.value_in.result ∙ at.invariant.2,
+      length-set at.out at.k c.value_in.result ∙ at.invariant.1,
     )
 
 pub shape_of-out : goal.shape_of-out
-shape_of-out c = c.loop-k.invariant.2
+shape_of-out c = c.loop-k.invariant.1
 
 pub returns : goal.returns
 returns c =
@@ -36,5 +35,5 @@ returns c =
     let number = values_number a.bytes.now a.m c.requires.0 in
     let all : at.k ≡ length values = omega (arith, number) in
     let room : length values ≤ length a.out.now = omega (arith, number, c.requires.1) in
-    at.invariant.1 ∙ ap (λ (n : ℕ). sets a.out.now 0 (tabulated (λ (i : ℕ). get_or values i 0) n 0)) all
+    at.invariant.0 ∙ ap (λ (n : ℕ). sets a.out.now 0 (tabulated (λ (i : ℕ). get_or values i 0) n 0)) all
     ∙ ap (sets a.out.now 0) (tabulated_own values) ∙ sets_front values a.out.now room

@@ -5,7 +5,7 @@ use Rattle.rehearsal.proofs.Answering.{Going}
 use Rattle.rehearsal.proofs.answer.answer_entries.Given as goal
 
 abbrev pub invariant-loop-places : goal.invariant-loop-places
-invariant-loop-places l = Going l.header l.file l.initial.memory l.initial.out l.memory l.out l.places
+invariant-loop-places l = Going l.job.header l.job.file.now l.initial.memory l.initial.out l.memory l.out l.places
 
 abbrev pub decreases-loop-places : goal.decreases-loop-places
-decreases-loop-places l = length l.file - l.places.at
+decreases-loop-places l = length l.job.file.now - l.places.at

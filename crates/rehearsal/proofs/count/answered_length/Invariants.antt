@@ -5,7 +5,7 @@ use Rattle.rehearsal.proofs.Counting.{Counting}
 use Rattle.rehearsal.proofs.count.answered_length.Given as goal
 
 abbrev pub invariant-loop-places : goal.invariant-loop-places
-invariant-loop-places l = Counting l.header l.file l.places
+invariant-loop-places l = Counting l.job.header l.job.file.now l.places
 
 abbrev pub decreases-loop-places : goal.decreases-loop-places
-decreases-loop-places l = length l.file - l.places.at
+decreases-loop-places l = length l.job.file.now - l.places.at

@@ -3,13 +3,10 @@ use native.Mathlib.Omega.{arith}
 use mathlib.Core.Path.{◌≡◌, ap, ◌∙◌}
 use mathlib.Core.List.{List, ◌++◌}
 use Prim.Native.Nat.{ℕ, ◌+◌, ◌-◌, ◌*◌}
-use lib.ListN.{take, drop, length-take}
+use lib.ListN.{take, drop}
 use Rattle.passage.specs.Acting.{handed_on}
 use Rattle.twin.specs.Step.{with_change}
 use Rattle.twin.proofs.step.hop.Goals as goal
-
-pub slice_bounds-pass-end-3 : goal.slice_bounds-pass-end-3
-slice_bounds-pass-end-3 c = simp length-take (omega arith)
 
 pub returns : goal.returns
 returns c =

@@ -1,6 +1,6 @@
 -- `run_span` meets its contract: the loop keeps the chain as the devices of the span so far have left it.
 use native.Mathlib.Omega.{arith}
-use mathlib.Core.Path.{◌≡◌, refl, sym, ap, ◌∙◌}
+use mathlib.Core.Path.{◌≡◌, sym, ap, ◌∙◌}
 use mathlib.Core.List.{List, ◌++◌}
 use Prim.Native.Nat.{ℕ}
 use lib.ListN.{length, drop}
@@ -27,26 +27,10 @@ loop-device-init c =
     let a = c.args in
     let line = a.line.now in
     let rest = drop (length line) a.out.now in
-    let test = c.is_span in
-    let spans = sym test.ensures ∙ c.if-not-is_span.false in
     let copied = c.copy.ensures in
     let none = sym (none_of_span a.n (chain_with a.memory.now line) a.from) in (
-      omega (arith, (in_span a.n a.from a.to (length a.memory.now) spans).1),
-      omega arith,
       ap (λ x. x.memory) none,
       copied ∙ ap (λ (l : List ℕ). line ++ l) (sym (ap (drop (length line)) copied ∙ drop-append_seam line rest)) ∙ ap (λ x. x.line ++ drop (length line) c.copy.new.out) none,
-      refl,
-      refl,
-    )
-
-pub hop-requires : goal.hop-requires
-hop-requires c =
-    let a = c.args in
-    let at = c.loop-device in
-    let test = c.is_span in
-    let span = in_span a.n a.from a.to (length a.memory.now) (sym test.ensures ∙ c.if-not-is_span.false) in (
-      omega (arith, span.0, span.2, at.invariant.4, c.loop-device-test.true),
-      omega (arith, c.copy.auto.out, at.invariant.5, c.if-out-line.false),
     )
 
 pub loop-device-preserved : goal.loop-device-preserved
@@ -59,21 +43,11 @@ loop-device-preserved c =
     let rest = drop (length line) c.copy.new.out in
     let hop = c.hop in
     let done = hopped_on a.n at.device now_stands rest (length line) at.memory hop.new.memory at.out hop.new.out
-    (hops_length a.n a.from at.device s) at.invariant.2 at.invariant.3 hop.ensures in
-    let next = next_of_span a.n s a.from at.device at.invariant.1 in (
-      omega arith,
-      omega arith,
+    (hops_length a.n a.from at.device s) at.invariant.0 at.invariant.1 hop.ensures in
+    let next = next_of_span a.n s a.from at.device at.auto.device in (
       done.0 ∙ ap (λ x. x.memory) next,
       done.1 ∙ ap (λ x. x.line ++ rest) next,
-      hop.auto.memory ∙ at.invariant.4,
-      hop.auto.out ∙ at.invariant.5,
     )
-
-pub shape_of-memory : goal.shape_of-memory
-shape_of-memory c = c.loop-device.invariant.4
-
-pub shape_of-out : goal.shape_of-out
-shape_of-out c = c.loop-device.invariant.5 ∙ c.copy.auto.out
 
 pub returns : goal.returns
 returns c =
@@ -81,9 +55,10 @@ returns c =
     let at = c.loop-device in
     let line = a.line.now in
     let s = chain_with a.memory.now line in
-    let all : at.device ≡ a.to = omega arith in
+    let span = in_span a.n a.from a.to (length a.memory.now) (sym c.is_span.ensures ∙ c.if-not-is_span.false) in
+    let all : at.device ≡ a.to = omega (arith, span.1) in
     let rest = ap (drop (length line)) c.copy.ensures ∙ drop-append_seam line (drop (length line) a.out.now) in
     handed_on _ s (hops_from a.n a.from a.to s) a.out.now
     (sym c.is_span.ensures ∙ c.if-not-is_span.false) c.if-out-line.false at.out at.memory (hops_length a.n a.from a.to s)
-    (at.invariant.3 ∙ ap (λ (l : List ℕ). (hops_from a.n a.from at.device s).line ++ l) rest ∙ ap (λ (k : ℕ). (hops_from a.n a.from k s).line ++ drop (length line) a.out.now) all)
-    (at.invariant.2 ∙ ap (λ (k : ℕ). (hops_from a.n a.from k s).memory) all)
+    (at.invariant.1 ∙ ap (λ (l : List ℕ). (hops_from a.n a.from at.device s).line ++ l) rest ∙ ap (λ (k : ℕ). (hops_from a.n a.from k s).line ++ drop (length line) a.out.now) all)
+    (at.invariant.0 ∙ ap (λ (k : ℕ). (hops_from a.n a.from k s).memory) all)

@@ -1,0 +1,8 @@
+-- `push_carried` meets its contract: the loop keeps the line's bytes so far laid behind what stood.
+use Rattle.std.proofs.Common.{◌≡◌, ◌++◌}
+use Rattle.ground.specs.Sweep.{tabulated}
+use Rattle.lines.specs.Line.{byte_at}
+use Rattle.underway.proofs.laid.Laid.push_carried.Given as goal
+
+abbrev pub invariant-loop-i : goal.invariant-loop-i
+invariant-loop-i l = l.self ≡ l.initial.self ++ tabulated (byte_at l.line) l.i 2
