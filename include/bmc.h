@@ -45,8 +45,8 @@
  * and the twin of a long chain, are for processors with that much memory; the
  * others ask for a line, 280 bytes, and its values, 64.
  *
- * CODE. All calls together are 13 to 22 KB; the reader, the writer and the cells 7
- * to 10. A program that is linked with --gc-sections takes in what it calls.
+ * CODE. All calls together are 13 to 22 KB; the reader, the writer and the cells 6
+ * to 9. A program that is linked with --gc-sections takes in what it calls.
  *
  * WHAT THE CALLER OWES, in every call:
  *  - each pointer is valid for the length beside it, for reading where it is

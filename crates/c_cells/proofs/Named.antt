@@ -18,10 +18,10 @@ use Rattle.c_cells.specs.CellsBytes.{registers_of, room_number, cells_number, ce
 use Rattle.c_cells.proofs.Numbered.{turned_away}
 
 module _ {A : Type 0} (bipolar : ℕ) (named : Range → A) (none : A) where
-  is_unipolar : bipolar ≡ 0 → by_range bipolar named none ≡ named Unipolar
+  pub is_unipolar : bipolar ≡ 0 → by_range bipolar named none ≡ named Unipolar
   is_unipolar e = ap (λ (t : Bool). cond t (named Unipolar) (cond (eqb bipolar 1) (named Bipolar) none)) (eq-eqb bipolar 0 e)
 
-  is_bipolar : bipolar ≡ 1 → by_range bipolar named none ≡ named Bipolar
+  pub is_bipolar : bipolar ≡ 1 → by_range bipolar named none ≡ named Bipolar
   is_bipolar e = ap (λ (k : ℕ). by_range k named none) e
 
   pub is_named : (range : Range) → range_number range ≡ bipolar → by_range bipolar named none ≡ named range

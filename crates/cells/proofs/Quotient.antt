@@ -1,12 +1,13 @@
 -- d * 5, a whole number in single precision, divided by 16384.0 is the quotient, rounded once. All of it holds of -5 and -16384.0 too, but
 -- the sign of 0 V: what it is there is asked for by itself.
-use mathlib.Core.Path.{◌≡◌, refl, sym, ap, ◌∙◌}
+use mathlib.Core.Path.{◌≡◌, refl, sym, ap, ◌∙◌, subst}
 use mathlib.Core.Bool.{Bool, true, false}
 use Prim.Native.Nat.{ℕ, zero, suc, ◌*◌, ◌<◌, ◌≤◌, ◌^◌}
 use native.Mathlib.Nat.{mul-pos, mul_assoc, mul_comm, zero-lt-suc, lt_irrefl}
 use native.Mathlib.Omega.{arith}
+use lib.Dec.{T, le→leb, lt→ltb}
 use lib.IntN.{ℤ, pos, negsuc, nat_abs, ◌*ℤ◌}
-use lib.Ieee.{Float, nan, inf, fin, binary32, unlike, up, down, round, div, of_int}
+use lib.Ieee.{Float, nan, inf, fin, binary32, unlike, up, down, round, div, of_int, in_float}
 use lib.Ieee.Fits.{down_pos}
 use lib.Ieee.Exact.{HasValue}
 use lib.Ieee.Back.{round_whole}
@@ -15,6 +16,11 @@ use mir.Syntax.{w32}
 use mir.Val.{SFits, to_z, of_z}
 use Rattle.cells.specs.Voltage.{negative, volts_of}
 use Rattle.cells.proofs.Scaled.{times_below, size_times, small_fits, few_fit, kept}
+
+in_float_lem : (z : ℤ) → nat_abs z ≤ 2 ^ 24 → T (in_float binary32 z)
+unfolding in_float
+in_float_lem (pos n) h = le→leb n (2 ^ 24) h
+in_float_lem (negsuc n) h = lt→ltb n (2 ^ 24) h
 
 whole : (z : ℤ) → nat_abs z ≤ 2 ^ 24 → HasValue (of_int binary32 z) (negative z) (nat_abs z) 1
 unfolding of_int
@@ -54,6 +60,12 @@ module _ (d : ℤ) (few : nat_abs d < 16384) (k : ℤ) (five : nat_abs k ≡ 5) 
 
   word : to_z w32 (of_z w32 (to_z w32 (of_z w32 d) *ℤ k)) ≡ d *ℤ k
   word = kept (to_z w32 (of_z w32 d) *ℤ k) (d *ℤ k) times fits
+
+  pub product_fits : SFits w32 (to_z w32 (of_z w32 d) *ℤ k)
+  product_fits = subst (SFits w32) (sym times) fits
+
+  pub product_in_float : T (in_float binary32 (to_z w32 (of_z w32 (to_z w32 (of_z w32 d) *ℤ k))))
+  product_in_float = subst (λ (z : ℤ). T (in_float binary32 z)) (sym word) (in_float_lem (d *ℤ k) (omega (arith, size)))
 
   pub quotient : (t : Bool) → negative k ≡ t → unlike (negative (pos 0 *ℤ k)) t ≡ false
       → div binary32 (of_int binary32 (to_z w32 (of_z w32 (to_z w32 (of_z w32 d) *ℤ k)))) (fin t 1 (pos 14)) ≡ volts_of d

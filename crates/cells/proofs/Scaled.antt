@@ -78,7 +78,10 @@ microvolts_fit (negsuc n) h = record { sfits = mag_below ((suc n * 78125 + 128) 
 pub kept : (z y : ℤ) → z ≡ y → SFits w32 y → to_z w32 (of_z w32 z) ≡ y
 kept z y same fits = ap (λ (x : ℤ). to_z w32 (of_z w32 x)) same ∙ to_z-of_z w32 y fits
 
--- the steps that a measurement stands from 0 V
+-- a measurement in a signed word, and the steps it stands from 0 V
+pub code_word : (m : ℕ) → m < 16384 → to_z w32 m ≡ pos m
+code_word m h = kept (pos m) (pos m) refl (record { sfits = omega (arith, h) })
+
 pub few_steps : (range : Range) (m : ℕ) → m < 16384 → nat_abs (steps_of range m) < 16384
 few_steps Unipolar m h = h
 few_steps Bipolar m h = by (ltb m 8192) refl
@@ -89,3 +92,6 @@ few_steps Bipolar m h = by (ltb m 8192) refl
 
 pub few_fit : (d : ℤ) → nat_abs d < 16384 → SFits w32 d
 few_fit d h = small_fits d (omega arith)
+
+pub steps_fit : (range : Range) (m : ℕ) → m < 16384 → SFits w32 (steps_of range m)
+steps_fit range m h = few_fit (steps_of range m) (few_steps range m h)

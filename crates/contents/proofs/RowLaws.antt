@@ -1,6 +1,6 @@
 -- What decides each of rows 7 to 11, said of plain numbers: the answers of the functions that look at one row.
 use Rattle.std.specs.Prelude.{Result, Ok}
-use Rattle.std.proofs.Common.{◌≡◌, ℕ, zero, suc, ◌+◌, ◌*◌, ◌%◌, ◌<◌, ◌≤◌, Bool, true, cond, ◌&&◌, eqb, leb, List, sym, ap, ◌∙◌, ap₂, ⊎_elim, eq-zero-or-pos, arith, eq-eqb, ne_eqb}
+use Rattle.std.proofs.Common.{◌≡◌, ℕ, zero, suc, ◌+◌, ◌*◌, ◌%◌, ◌<◌, ◌≤◌, Bool, true, false, cond, ◌&&◌, eqb, leb, List, sym, ap, ◌∙◌, ap₂, ⊎_elim, eq-zero-or-pos, arith, eq-eqb, ne_eqb}
 use Rattle.ground.proofs.Test.{below_or_not}
 use Rattle.questions.specs.Question.{by_form}
 use Rattle.questions.specs.Shape.{shape_of}
@@ -21,6 +21,10 @@ module _ (q : Question) (bytes : List ℕ) where
   rest =
       by_form q.kind (eqb (byte_in bytes 1) 0) (eqb (byte_in bytes 1) q.reg && value_echoed q bytes) (eqb (byte_in bytes 1) q.reg)
 
+  pub first_other : (byte_in bytes 0 ≡ (shape_of q).first → ⊥) → false ≡ echoed q bytes
+  unfolding echoed rest
+  first_other h = sym (ap (λ (t : Bool). t && rest) (ne_eqb (byte_in bytes 0) (shape_of q).first h))
+
   module _ (first : byte_in bytes 0 ≡ (shape_of q).first) where
     by_rest : (b : Bool) → rest ≡ b → b ≡ echoed q bytes
     unfolding echoed rest
@@ -29,6 +33,14 @@ module _ (q : Question) (bytes : List ℕ) where
     pub hello_echo : q.kind ≡ 0 → eqb (byte_in bytes 1) 0 ≡ echoed q bytes
     unfolding rest
     hello_echo e = by_rest (eqb (byte_in bytes 1) 0) (of_hello q.kind _ _ _ e)
+
+    pub second_other : 1 ≤ q.kind → (byte_in bytes 1 ≡ q.reg → ⊥) → false ≡ echoed q bytes
+    unfolding rest
+    second_other lo h =
+        let other = ne_eqb (byte_in bytes 1) q.reg h in
+        ⊎_elim
+        (λ (w : q.kind < 3). by_rest false (of_write q.kind _ _ _ lo (omega arith) ∙ ap (λ (t : Bool). t && value_echoed q bytes) other))
+        (λ r. by_rest false (of_read q.kind _ _ _ r ∙ other)) (below_or_not q.kind 3)
 
     pub write_echo : 1 ≤ q.kind → q.kind ≤ 2 → byte_in bytes 1 ≡ q.reg → value_echoed q bytes ≡ echoed q bytes
     unfolding rest

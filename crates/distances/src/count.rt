@@ -2,10 +2,11 @@
 // in order: behind each bit come those that stand behind it. There are at most 520 bits, so that no sum wraps.
 ghost use Rattle.std.specs.Prelude.{◌≤◌, ◌*◌, length};
 
+// Each bit is added as 1 or 0, and not filtered and counted: so a compiler takes many at a time.
 fn singles(bits: &[u8], wanted: u8) -> usize
     ensures { result ≤ length bits.now }
 {
-    bits.iter().filter(|bit| **bit == wanted).count()
+    bits.iter().map(|bit| usize::from(*bit == wanted)).sum()
 }
 
 pub(crate) fn pairs(bits: &[u8], wanted: u8) -> usize

@@ -21,7 +21,7 @@ use Rattle.reader.specs.Read.{values_on}
 use Rattle.reader.proofs.Values.{values_number}
 use Rattle.std.specs.Prelude.{Some, None}
 use Rattle.std.proofs.lemmas.Option.{cond_some}
-use Rattle.parts.specs.Part.{order_of, values_found, has_part, above, start_of, part_of, place_found, part_found}
+use Rattle.parts.specs.Part.{order_of, values_found, has_part, above, start_of, part_of, place_found}
 
 order_below : (q : Question) (a : ℕ) → good_question q ≡ true → 3 ≤ q.kind → covers q a ≡ true → order_of q a < (shape_of q).values
 unfolding covers order_of shape_of
@@ -60,20 +60,11 @@ module _ (q : Question) (line : List ℕ) (a : ℕ) where
   without_place : has_part q line a ≡ false → None ≡ place_found q line a
   without_place e = sym (ap (λ (t : Bool). cond t (Some (start_of q line a)) None) e)
 
-  without_found : has_part q line a ≡ false → None ≡ part_found q line a
-  without_found e = sym (ap (λ (t : Bool). cond t (Some (part_of q line a)) None) e)
-
   pub no_place : values_found q line ≡ 0 → None ≡ place_found q line a
   no_place e = without_place (none_found e)
 
   pub place_not_put_to : covers q a ≡ false → None ≡ place_found q line a
   place_not_put_to e = without_place (none_put_to e)
-
-  pub none_taken : values_found q line ≡ 0 → None ≡ part_found q line a
-  none_taken e = without_found (none_found e)
-
-  pub none_covered : covers q a ≡ false → None ≡ part_found q line a
-  none_covered e = without_found (none_put_to e)
 
   pub no_part : values_found q line ≡ 0 → [] ≡ part_of q line a
   no_part e = without_part (none_found e)
@@ -118,9 +109,6 @@ module _ (q : Question) (line : List ℕ) (a : ℕ) (some : 0 < values_found q l
   pub place_there : Some (start_of q line a) ≡ place_found q line a
   place_there = sym (ap (λ (t : Bool). cond t (Some (start_of q line a)) None) has_part_lem)
 
-  pub found_there : Some (part_of q line a) ≡ part_found q line a
-  found_there = sym (ap (λ (t : Bool). cond t (Some (part_of q line a)) None) has_part_lem)
-
   pub part_there : take 4 (drop (start_of q line a) line) ≡ part_of q line a
   unfolding part_of
   part_there = sym (ap (λ (t : Bool). cond t (take 4 (drop (start_of q line a) line)) []) has_part_lem)
@@ -161,28 +149,23 @@ module _ (q : Question) (line : List ℕ) (a : ℕ) where
   unfolding start_of
   start_some e = ap (λ (t : Bool). cond t (5 + 4 * above q line a) 0) e
 
-  -- a place that is found is that one, and the part is found with it
+  -- a place that is found is that one, and no preamble's
   pub record PlaceAt (start : ℕ) : Type 0 where
     pub is : start ≡ start_of q line a
     pub some : 0 < start_of q line a
-    pub found : Some (part_of q line a) ≡ part_found q line a
 
   pub place_at : (start : ℕ) → place_found q line a ≡ Some start → PlaceAt start
   place_at start e =
       let test = cond_some (has_part q line a) (start_of q line a) start e in
-      record {
-        is = sym test.1;
-        some = omega (arith, start_some test.0);
-        found = sym (ap (λ (t : Bool). cond t (Some (part_of q line a)) None) test.0);
-      }
+      record { is = sym test.1; some = omega (arith, start_some test.0) }
 
-  -- where none is found, there is no part either
-  pub place_none : place_found q line a ≡ None → None ≡ part_found q line a
+  -- where none is found, the part is empty
+  pub place_none : place_found q line a ≡ None → [] ≡ part_of q line a
   place_none e = by_test (has_part q line a) refl
     where
-      by_test : (t : Bool) → has_part q line a ≡ t → None ≡ part_found q line a
+      by_test : (t : Bool) → has_part q line a ≡ t → [] ≡ part_of q line a
       by_test true is = absurd (let both : Some (start_of q line a) ≡ None = sym (ap (λ (t : Bool). cond t (Some (start_of q line a)) None) is) ∙ e in let z : ◌≡◌ {A = ℕ} 0 1 = cc in omega arith)
-      by_test false is = without_found q line a is
+      by_test false is = without_part q line a is
 
   pub no_start_no_place : start_of q line a ≡ 0 → place_found q line a ≡ None
   no_start_no_place e = by_test (has_part q line a) refl

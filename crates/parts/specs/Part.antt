@@ -28,13 +28,10 @@ above q line a = length (drop (suc (order_of q a)) (values_on line (values_found
 unfoldable pub start_of : Question → List ℕ → ℕ → ℕ
 start_of q line a = cond (has_part q line a) (5 + 4 * above q line a) 0
 
--- the four characters from there on; nothing where there is no such part
+-- the second call: the four characters that carry a device's register; nothing where there is no such part
 unfoldable pub part_of : Question → List ℕ → ℕ → List ℕ
 part_of q line a = cond (has_part q line a) (take 4 (drop (start_of q line a) line)) []
 
--- the second call: the place, and the four characters that carry a device's register, where there is such a part
+-- the place alone, where there is such a part
 abbrev pub place_found : Question → List ℕ → ℕ → Option ℕ
 place_found q line a = cond (has_part q line a) (Some (start_of q line a)) None
-
-abbrev pub part_found : Question → List ℕ → ℕ → Option (List ℕ)
-part_found q line a = cond (has_part q line a) (Some (part_of q line a)) None

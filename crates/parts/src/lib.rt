@@ -1,23 +1,25 @@
 // The second call: the part of an accepted line that carries a named device's register (document 01, below "Commands and answers").
 #![tactic(auto)]
 
-ghost use Rattle.std.specs.Prelude.{◌≡◌, option_copied};
-ghost use Rattle.parts.specs.Part.{order_of, values_found, place_found, part_found};
+ghost use Rattle.std.specs.Prelude.{◌≡◌};
+ghost use Rattle.parts.specs.Part.{order_of, values_found, place_found, part_of};
 
 use questions::question::{Kind, Question, is_covered};
 use reader::read::read;
 use readings::values_taken;
 
-// The part of the line whose four characters carry this device's register, where the line is accepted.
-pub fn register_part<'a>(q: Question, line: &'a [u16], device: u8) -> Option<&'a [u16]>
-    ensures { option_copied result ≡ part_found q line.now device }
+// The part of the line whose four characters carry this device's register, where the line is accepted; else an empty part.
+pub fn register_part<'a>(q: Question, line: &'a [u16], device: u8) -> &'a [u16]
+    ensures { result.now ≡ part_of q line.now device }
 {
-    let start = part_start(q, line, device)?;
+    let Some(start) = part_start(q, line, device) else {
+        return &line[..0];
+    };
     let end = start + 4;
-    Some(&line[start..end])
+    &line[start..end]
 }
 
-// The place of that part's first word.
+// The place of that part's first word, where there is such a part.
 pub fn part_start(q: Question, line: &[u16], device: u8) -> Option<usize>
     ensures { result ≡ place_found q line.now device }
 {

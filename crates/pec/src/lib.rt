@@ -84,7 +84,9 @@ fn take_in_all(table: &[u8; 256], crc: u8, bytes: &[u8]) -> u8
     requires { table.now ≡ remainder_table }
     ensures { result ≡ run byte_step crc bytes.now }
 {
-    bytes
-        .iter()
-        .fold(crc, |crc, &byte| take_in(table, crc, byte))
+    let mut crc = crc;
+    for &byte in bytes {
+        crc = take_in(table, crc, byte);
+    }
+    crc
 }

@@ -1,15 +1,13 @@
 -- The second call is as promised: the laws of `parts` and `acceptance`, said of the call that `read` answers beside it.
 use mathlib.Core.Path.{◌≡◌, refl, sym, ap, subst, ◌∙◌}
-use mathlib.Core.Bool.{Bool, true, false, cond}
+use mathlib.Core.Bool.{true}
 use mathlib.Core.Logic.{⊎_elim}
 use mathlib.Core.List.{List, [], ◌∷◌}
 use Prim.Native.Nat.{ℕ, ◌+◌, ◌*◌, ◌≤◌, ◌<◌}
 use native.Mathlib.Nat.{eq-zero-or-pos}
 use native.Mathlib.Omega.{arith}
 use lib.ListN.{length}
-use borrow.Author.Tests.{ne_eqb}
-use Rattle.std.specs.Prelude.{Result, Option, Some, None}
-use Rattle.std.proofs.lemmas.Option.{none-some}
+use Rattle.std.specs.Prelude.{Result}
 use Rattle.lines.specs.Line.{bytes_in}
 use Rattle.packing.specs.Words.{words_of, line_on}
 use Rattle.questions.specs.Question.{covers}
@@ -21,8 +19,8 @@ use Rattle.readings.specs.declared.Taken.{Taken}
 use Rattle.judging.proofs.Accepted.{some_values}
 use Rattle.judging.proofs.Bounds.{enough_room}
 use Rattle.reader.specs.Read.{ReadDone}
-use Rattle.parts.specs.Part.{values_found, has_part, start_of, part_of, place_found, part_found}
-use Rattle.parts.proofs.Part.{none_taken, none_covered, place_there, found_there, part_there, inside}
+use Rattle.parts.specs.Part.{values_found, start_of, part_of}
+use Rattle.parts.proofs.Part.{no_part, not_put_to, starts, no_start_no_place, place_there, part_there, inside}
 use Rattle.acceptance.specs.Part.{part_value}
 use Rattle.acceptance.proofs.SecondCall.{part_has_four, second_call_agrees}
 use Rattle.c_parts.specs.PartBytes.{packed_start, part_in}
@@ -50,14 +48,10 @@ two_bytes (a ∷ b ∷ c ∷ []) size = absurd (omega arith)
 two_bytes (a ∷ b ∷ c ∷ d ∷ []) size = refl
 two_bytes (a ∷ b ∷ c ∷ d ∷ e ∷ part) size = absurd (omega arith)
 
--- where no part is found, no place is
-none_there : (q : Question) (line : List ℕ) (a : ℕ) → part_found q line a ≡ None → place_found q line a ≡ None
-none_there q line a none = by_test (has_part q line a) refl
-  where
-    by_test : (t : Bool) → has_part q line a ≡ t → place_found q line a ≡ None
-    by_test true is =
-        absurd (none-some (part_of q line a) (sym none ∙ ap (λ (t : Bool). cond t (Some (part_of q line a)) None) is))
-    by_test false is = ap (λ (t : Bool). cond t (Some (start_of q line a)) None) is
+-- where there is a place the part has four words, so that it is not empty
+not_empty : (q : Question) (line : List ℕ) (a : ℕ) → 1 ≤ start_of q line a → part_of q line a ≡ [] → ⊥
+not_empty q line a some none =
+    let there = starts q line a some in omega (arith, part_has_four q line a there.0 there.1, ap length none)
 
 -- a part starts where the number of values that `read` took says
 place : (q : Question) (line before after : List ℕ) (r : Result Taken Refusal) → ReadDone q line before after r → 1 ≤ values_taken r
@@ -71,26 +65,24 @@ unfolding part_in
 second_call = record {
   handed_back = λ q line before after r done some a covered part is.
       let there = found q line before after r done some in (
-        part_of q line a,
-        is ∙ sym (found_there q line a there covered),
         start_of q line a,
         place q line before after r done some a covered,
         record {
-          there = sym (part_there q line a there covered);
-          four = part_has_four q line a there covered;
-          carries = two_bytes (part_of q line a) (part_has_four q line a there covered)
-              ∙ ap (λ (v : ℕ). v ∷ []) (sym (second_call_agrees q line before after r done some a covered));
+          there = is ∙ sym (part_there q line a there covered);
+          four = ap length is ∙ part_has_four q line a there covered;
+          carries = two_bytes part (ap length is ∙ part_has_four q line a there covered)
+              ∙ ap (λ (v : ℕ). v ∷ []) (ap part_value is ∙ sym (second_call_agrees q line before after r done some a covered));
         },
       );
-  not_covered = λ q line a out part is. is ∙ sym (none_covered q line a out);
+  not_covered = λ q line a out part is. is ∙ sym (not_put_to q line a out);
   nothing_taken = λ q line before after r done fits none a part is.
-      is ∙ sym (none_taken q line a (same_found q line before after r done fits ∙ none));
+      is ∙ sym (no_part q line a (same_found q line before after r done fits ∙ none));
   in_bytes = λ q line before after reading done some a covered r is.
       let words = line_on line in
-      let there = inside q words a (found q words before after reading done some) covered in
       let packed : r ≡ 4 + 65536 * start_of q words a = is ∙ sym (ap packed_start (place_there q words a (found q words before after reading done some) covered)) in
       let upper : start_of q words a ≡ upper_half r = omega (arith, packed) in
       (omega (arith, packed), subst (StartsAt q a (values_taken reading)) upper (place q words before after reading done some a covered));
   none_in_bytes = λ q line part a r is says none.
-      says ∙ ap packed_start (none_there q (line_on line) a (sym is ∙ none));
+      says
+      ∙ ⊎_elim (λ zero. ap packed_start (no_start_no_place q (line_on line) a zero)) (λ some. absurd (not_empty _ (line_on line) a some (sym is ∙ none))) (eq-zero-or-pos _);
 }

@@ -11,7 +11,7 @@ use Rattle.writing.specs.PutLine.{LinePut, put_number}
 use Rattle.questions.specs.declared.question.Question.{Question}
 use Rattle.readings.specs.Reading.{number_of}
 use Rattle.reader.specs.Read.{ReadDone}
-use Rattle.parts.specs.Part.{part_found}
+use Rattle.parts.specs.Part.{part_of}
 use Rattle.reasons.specs.Reason.{reason_of, reason_number}
 use Rattle.commands.specs.Command.{CommandPut, issued_number}
 use Rattle.cells.specs.Cell.{enabled, cell_of, cells_of, cell_number}
@@ -95,7 +95,7 @@ pub record OwnCell (mask bipolar : ℕ) (registers : List ℕ) (microvolts micro
 pub record Demand1 : Type 0 where
   -- the reader and the second call, which refuses nothing (what it hands back: SecondCall.antt); the command writer, and the writing of a line
   pub read : (q : Question) (line out : List ℕ) → Answers (read_rows q line (length out)) number_of out (ReadDone q line out)
-  pub register_part : (q : Question) (line : List ℕ) (device : ℕ) → Replies [] (λ part. 0) (Returns (part_found q line device))
+  pub register_part : (q : Question) (line : List ℕ) (device : ℕ) → Replies [] (λ part. 0) (Returns (part_of q line device))
   -- why the reader takes a line or turns it away, by the reader's own rows; there is room for the values of 32 devices
   pub explain : (q : Question) (line : List ℕ) → Replies (read_rows q line 32) reason_number (Returns (reason_of q line))
   pub write_command : (q : Question) (out : List ℕ) → Answers (command_rows q (length out)) issued_number out (CommandPut q out)

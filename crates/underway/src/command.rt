@@ -23,52 +23,49 @@ impl<'a> Model for Wire<'a> {
     ghost invariant = { λ wire. (length wire.bytes.now ≤ 64) × (length wire.bytes.now % 2 ≡ 0) };
 }
 
-// A command on its way.
-pub(crate) fn lay(q: Question, count: u8, added: u8, wire: Wire) -> Laid
+// A command on its way, in the place of what was laid there before. It is lent: a `Laid` handed back by value would be copied.
+pub(crate) fn lay(q: Question, count: u8, added: u8, wire: Wire, laid: &mut Laid)
     requires { ((shape_of q).first < 256) × ((shape_of q).values ≤ 32) }
-    ensures { result ≡ on_the_way q count added wire.entry }
+    ensures { laid.new ≡ on_the_way q count added wire.entry }
 {
     let shape = shape_of(q);
     let first = shape.first as u8;
     match q.asks() {
-        Kind::HelloAll => lay_hello(first, count),
-        Kind::WriteAll | Kind::WriteDevice => lay_write(first, q, added),
+        Kind::HelloAll => lay_hello(first, count, laid),
+        Kind::WriteAll | Kind::WriteDevice => lay_write(first, q, added, laid),
         Kind::ReadAll | Kind::ReadDevice => {
             let pairs = shape.values.saturating_sub(wire.bytes.len() / 2);
-            lay_read(first, q, added, wire.bytes, pairs)
+            lay_read(first, q, added, wire.bytes, pairs, laid);
         }
     }
 }
 
-fn lay_hello(first: u8, count: u8) -> Laid
-    ensures { result ≡ first ∷ 0 ∷ count ∷ [] }
+fn lay_hello(first: u8, count: u8, laid: &mut Laid)
+    ensures { laid.new ≡ first ∷ 0 ∷ count ∷ [] }
 {
-    let mut laid = Laid::nothing();
+    *laid = Laid::nothing();
     laid.push_all(&[first, 0, count]);
-    laid
 }
 
-fn lay_write(first: u8, q: Question, added: u8) -> Laid
-    ensures { result ≡ sealed q added (first ∷ q.reg ∷ low_high q.value) }
+fn lay_write(first: u8, q: Question, added: u8, laid: &mut Laid)
+    ensures { laid.new ≡ sealed q added (first ∷ q.reg ∷ low_high q.value) }
 {
-    let mut laid = Laid::nothing();
+    *laid = Laid::nothing();
     laid.push(first);
     laid.push(q.reg);
     laid.push_value(q.value);
     laid.seal(q, added);
-    laid
 }
 
-fn lay_read(first: u8, q: Question, added: u8, wire: &[u8], pairs: usize) -> Laid
+fn lay_read(first: u8, q: Question, added: u8, wire: &[u8], pairs: usize, laid: &mut Laid)
     requires { length wire.now + 2 * pairs + 5 ≤ MOST }
-    ensures { result ≡ sealed q added (first ∷ q.reg ∷ (wire.now ++ (0 ∷ []))) ++ fill_pairs pairs }
+    ensures { laid.new ≡ sealed q added (first ∷ q.reg ∷ (wire.now ++ (0 ∷ []))) ++ fill_pairs pairs }
 {
-    let mut laid = Laid::nothing();
+    *laid = Laid::nothing();
     laid.push(first);
     laid.push(q.reg);
     laid.push_all(wire);
     laid.push(0);
     laid.seal(q, added);
     laid.push_pairs(pairs);
-    laid
 }

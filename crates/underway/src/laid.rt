@@ -67,28 +67,34 @@ impl Laid {
         requires { length self.old + count ≤ MOST }
         ensures { self.new ≡ self.old ++ tabulated (byte_at line.now) count 2 }
     {
+        let at = self.end;
         for i in 0..count {
-            self.push(byte_at(line, 2 + i));
+            self.bytes[at + i] = byte_at(line, 2 + i);
         }
+        self.end = at + count;
     }
 
     pub(crate) fn push_all(&mut self, more: &[u8])
         requires { length self.old + length more.now ≤ MOST }
         ensures { self.new ≡ self.old ++ more.now }
     {
-        for byte in more {
-            self.push(*byte);
+        let at = self.end;
+        for (i, &byte) in more.iter().enumerate() {
+            self.bytes[at + i] = byte;
         }
+        self.end = at + more.len();
     }
 
     pub(crate) fn push_pairs(&mut self, pairs: usize)
         requires { length self.old + 2 * pairs ≤ MOST }
         ensures { self.new ≡ self.old ++ fill_pairs pairs }
     {
-        for _ in 0..pairs {
-            self.push(0xC2);
-            self.push(0xD3);
+        let at = self.end;
+        for i in 0..pairs {
+            self.bytes[at + 2 * i] = 0xC2;
+            self.bytes[at + 2 * i + 1] = 0xD3;
         }
+        self.end = at + 2 * pairs;
     }
 
     // The PEC of what stands, and the alive byte where it is on: after FFh comes 00h.

@@ -41,7 +41,8 @@ fn is_as_left(q: Question, device: u8, wire: Wire, line: &[u16]) -> bool
     requires { good_question q ≡ true }
     ensures { result ≡ same line.now (line_of (on_the_way q device 0 wire.entry)) }
 {
-    let laid = lay(q, device, 0, wire);
+    let mut laid = Laid::nothing();
+    lay(q, device, 0, wire, &mut laid);
     is_line_of(line, laid.as_slice())
 }
 
@@ -50,7 +51,8 @@ fn hand(q: Question, device: u8, wire: Wire, line: &mut [u16])
     requires { (good_question q ≡ true) × (device < 32) }
     ensures { line.new ≡ out_of (on_the_way q (suc device) 1 wire.entry) line.old }
 {
-    let laid = lay(q, device + 1, 1, wire);
+    let mut laid = Laid::nothing();
+    lay(q, device + 1, 1, wire, &mut laid);
     let _ = put_line(laid.as_slice(), line);
 }
 

@@ -2,5 +2,5 @@
 use Rattle.questions.proofs.Good.{good_first, good_values}
 use Rattle.underway.proofs.hand.Goals as goal
 
-pub lay-laid-requires : goal.lay-laid-requires
-lay-laid-requires c = let q = c.args.q in (good_first q c.requires.0, good_values q c.requires.0)
+pub lay-requires : goal.lay-requires
+lay-requires c = let q = c.args.q in (good_first q c.requires.0, good_values q c.requires.0)

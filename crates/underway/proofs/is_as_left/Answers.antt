@@ -2,5 +2,5 @@
 use Rattle.questions.proofs.Good.{good_first, good_values}
 use Rattle.underway.proofs.is_as_left.Goals as goal
 
-pub lay-laid-requires : goal.lay-laid-requires
-lay-laid-requires c = let q = c.args.q in (good_first q c.requires, good_values q c.requires)
+pub lay-requires : goal.lay-requires
+lay-requires c = let q = c.args.q in (good_first q c.requires, good_values q c.requires)

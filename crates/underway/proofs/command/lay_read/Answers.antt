@@ -17,6 +17,6 @@ push_pairs-requires c =
       ap length c.push-2.ensures,
       length-append c.push.new.self (a.q.reg ∷ []),
       ap length c.push.ensures,
-      length-append c.nothing-laid.result (a.first ∷ []),
-      ap length c.nothing-laid.ensures,
+      length-append c.nothing.result (a.first ∷ []),
+      ap length c.nothing.ensures,
     )
